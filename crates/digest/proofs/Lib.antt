@@ -1,0 +1,5 @@
+pub mod RoundTrip
+pub mod Same
+pub mod Order
+pub mod Schedule
+pub mod Blocks
