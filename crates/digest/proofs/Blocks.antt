@@ -105,20 +105,17 @@ digest-parts bs rest s r h =
       ∙ ap (λ n. blocks n (bs ++ P) initial) (sym count)
     )
 
-pub one-block : (b : List ℕ) (s : Words) → length b ≡ 64 → compress s (wordsOf 16 b) ≡ blocks 1 b s
-unfolding blocks
-one-block b s l = ap (λ x. compress s (wordsOf 16 x)) (sym (take-all 64 b (omega arith)))
-
-pub two-blocks : (b : List ℕ) (s : Words) → compress (compress s (wordsOf 16 (take 64 b))) (wordsOf 16 (take 64 (drop 64 b))) ≡ blocks 2 b s
-unfolding blocks
-two-blocks b s = refl
-
--- the zeros of `close` are those of the padding
-pub closed : (b rest : List ℕ) (bits k n : ℕ) (s : Words) → length rest < 64 → b ≡ rest ++ 128 ∷ (replicate (64 * k - (length rest + 9)) 0 ++ bytes8 bits) →
-    k ≡ (length rest + 72) / 64 → blocks k b s ≡ blocks ((length rest + 72) / 64) (rest ++ closing (length rest) bits) s
-closed b rest bits k n s h e f =
-    let z : 64 * k - (length rest + 9) ≡ (119 - length rest) % 64 = omega arith in
-    ap (λ l. blocks k l s) (e ∙ ap (λ j. rest ++ 128 ∷ (replicate j 0 ++ bytes8 bits)) z) ∙ ap (λ j. blocks j (rest ++ closing (length rest) bits) s) f
+-- what `close` writes is the rest and the padding
+pub closed : (b rest : List ℕ) (bits end : ℕ) (s : Words) → length rest < 64 → end ≡ (length rest + 72) / 64 * 64 →
+    b ≡ rest ++ 128 ∷ (replicate (end - (length rest + 9)) 0 ++ bytes8 bits) →
+    blocks (length b / 64) b s ≡ blocks ((length rest + 72) / 64) (rest ++ closing (length rest) bits) s
+closed b rest bits end s h e is =
+    let zeros : ℕ = end - (length rest + 9) in
+    let z : zeros ≡ (119 - length rest) % 64 = omega arith in
+    let l : length b ≡ length rest + suc (zeros + 8) =
+        ap length is ∙ length-append rest _ ∙ ap (λ n. length rest + suc n) (length-append (replicate zeros 0) (bytes8 bits) ∙ ap (λ n. n + 8) (length-replicate zeros 0)) in
+    let k : length b / 64 ≡ (length rest + 72) / 64 = omega arith in
+    ap (λ j. blocks j b s) k ∙ ap (λ l. blocks ((length rest + 72) / 64) l s) (is ∙ ap (λ j. rest ++ 128 ∷ (replicate j 0 ++ bytes8 bits)) z)
 
 pub digest-by : (bs rest : List ℕ) (bits : ℕ) (s t : Words) → rest ≡ drop (length bs - length bs % 64) bs → bits ≡ 8 * length bs % 2 ^ 64 → s ≡ blocks (length bs / 64) bs initial →
     t ≡ blocks ((length rest + 72) / 64) (rest ++ closing (length rest) bits) s → bytesOf t ≡ sha256 bs

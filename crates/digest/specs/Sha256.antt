@@ -33,12 +33,16 @@ abbrev pub σ0 : ℕ → ℕ
 abbrev pub σ1 : ℕ → ℕ
 σ1 x = bitXor (bitXor (rotr 17 x) (rotr 19 x)) (x / 2 ^ 10)
 
--- 6.2.2, step 3: one round, at the constant k and the schedule word w
+-- 6.2.2, step 3: T1 and T2 of a round, at the constant k and the schedule word w
+abbrev pub t1 : ℕ → ℕ → Words → ℕ
+t1 k w s = add (add (add (add (s .h) (Σ1 (s .e))) (ch (s .e) (s .f) (s .g))) k) w
+
+abbrev pub t2 : Words → ℕ
+t2 s = add (Σ0 (s .a)) (maj (s .a) (s .b) (s .c))
+
+-- one round
 unfoldable pub round : ℕ → ℕ → Words → Words
-round k w s =
-    let t1 : ℕ = add (add (add (add (s .h) (Σ1 (s .e))) (ch (s .e) (s .f) (s .g))) k) w in
-    let t2 : ℕ = add (Σ0 (s .a)) (maj (s .a) (s .b) (s .c)) in
-    record { a = add t1 t2; b = s .a; c = s .b; d = s .c; e = add (s .d) t1; f = s .e; g = s .f; h = s .g }
+round k w s = record { a = add (t1 k w s) (t2 s); b = s .a; c = s .b; d = s .c; e = add (s .d) (t1 k w s); f = s .e; g = s .f; h = s .g }
 
 -- 4.2.2: the constants of the 64 rounds
 unfoldable pub constants : List ℕ

@@ -28,15 +28,23 @@ fn start() -> Words
     }
 }
 
-// The whole blocks at the front of `bytes`.
-fn whole_blocks(bytes: &[u8]) -> Words
-    ensures { λ r. ⌜ r ≡ blocks (length (now (bytes .entry)) / 64) (now (bytes .entry)) initial ⌝ }
+// The hash value after the whole blocks at the front of `bytes`.
+fn take_blocks(start: Words, bytes: &[u8]) -> Words
+    ensures { λ r. ⌜ r ≡ blocks (length (now (bytes .entry)) / 64) (now (bytes .entry)) start ⌝ }
 {
-    let mut s = start();
+    let mut s = start;
     for i in 0..bytes.len() / 64 {
         s = take_block(s, &bytes[64 * i..64 * i + 64]);
     }
     s
+}
+
+// How many bytes the last blocks have, behind whose first n the padding stands: one block or two.
+fn padded_length(n: usize) -> usize
+    requires { ⌜ n < 64 ⌝ }
+    ensures { λ r. ⌜ r ≡ (n + 72) / 64 * 64 ⌝ }
+{
+    if n < 56 { 64 } else { 128 }
 }
 
 // Fills `buf` with `rest`, the one bit, zeros and the length in bits.
@@ -53,21 +61,16 @@ fn close(buf: &mut [u8], rest: &[u8], bits: u64)
     buf[end..].copy_from_slice(&tail);
 }
 
-// The bytes past the whole blocks, with the padding: one block or two.
+// The hash value after the bytes past the whole blocks and the padding.
 fn finish(s: Words, rest: &[u8], bits: u64) -> Words
     requires { ⌜ length (now rest) < 64 ⌝ }
     ensures { λ r. ⌜ r ≡ blocks ((length (now (rest .entry)) + 72) / 64) (now (rest .entry) ++ closing (length (now (rest .entry))) bits) s ⌝ }
 {
-    if rest.len() < 56 {
-        let mut one = [0u8; 64];
-        close(&mut one, rest, bits);
-        take_block(s, &one)
-    } else {
-        let mut two = [0u8; 128];
-        close(&mut two, rest, bits);
-        let t = take_block(s, &two[0..64]);
-        take_block(t, &two[64..128])
-    }
+    let mut last = [0u8; 128];
+    let end = padded_length(rest.len());
+    let buf = &mut last[0..end];
+    close(buf, rest, bits);
+    take_blocks(s, buf)
 }
 
 // The words' bytes, the highest of each first.
@@ -104,7 +107,7 @@ impl Sha256 {
         ensures { λ r. ⌜ r ≡ sha256 (now (message .entry)) ⌝ }
     {
         let n = message.len();
-        let s = whole_blocks(message);
+        let s = take_blocks(start(), message);
         output(finish(s, &message[n - n % 64..], bit_length(n)))
     }
 }

@@ -1,6 +1,6 @@
 // The eight working words, the six functions on words, and one round made of them.
 ghost use mathlib.Core.Path.{_≡_};
-ghost use Rattle.digest.specs.Sha256.{ch, maj, Σ0, Σ1, σ0, σ1, round, next-word, plus};
+ghost use Rattle.digest.specs.Sha256.{ch, maj, Σ0, Σ1, σ0, σ1, t1, t2, round, next-word, plus};
 
 // The working words of a block; between blocks, the hash value so far.
 #[derive(Clone, Copy)]
@@ -60,18 +60,31 @@ pub fn next_word(back2: u32, back7: u32, back15: u32, back16: u32) -> u32
     small_sigma1(back2).wrapping_add(back7).wrapping_add(small_sigma0(back15)).wrapping_add(back16)
 }
 
+// What a round adds to both halves, at the constant `k` and the schedule word `w`.
+fn first_temporary(s: Words, k: u32, w: u32) -> u32
+    ensures { λ r. ⌜ r ≡ t1 k w s ⌝ }
+{
+    s.h.wrapping_add(big_sigma1(s.e)).wrapping_add(choose(s.e, s.f, s.g)).wrapping_add(k).wrapping_add(w)
+}
+
+// What a round adds to the first word alone.
+fn second_temporary(s: Words) -> u32
+    ensures { λ r. ⌜ r ≡ t2 s ⌝ }
+{
+    big_sigma0(s.a).wrapping_add(majority(s.a, s.b, s.c))
+}
+
 // One round, at the constant `k` and the schedule word `w`.
 pub fn step(s: Words, k: u32, w: u32) -> Words
     ensures { λ r. ⌜ r ≡ round k w s ⌝ }
 {
-    let t1 = s.h.wrapping_add(big_sigma1(s.e)).wrapping_add(choose(s.e, s.f, s.g)).wrapping_add(k).wrapping_add(w);
-    let t2 = big_sigma0(s.a).wrapping_add(majority(s.a, s.b, s.c));
+    let t = first_temporary(s, k, w);
     Words {
-        a: t1.wrapping_add(t2),
+        a: t.wrapping_add(second_temporary(s)),
         b: s.a,
         c: s.b,
         d: s.c,
-        e: s.d.wrapping_add(t1),
+        e: s.d.wrapping_add(t),
         f: s.e,
         g: s.f,
         h: s.g,

@@ -4,7 +4,7 @@ ghost use mathlib.Core.List.{List};
 ghost use Prim.Native.Nat.{ℕ, _+_, _*_, _%_, _<_, _≤_};
 ghost use lib.ListN.{length, getD};
 ghost use Rattle.digest.specs.declared.sha.functions.Words.{Words};
-ghost use Rattle.digest.specs.Sha256.{constants, compress, wordsOf};
+ghost use Rattle.digest.specs.Sha256.{constants, next-word, compress, wordsOf};
 ghost use Rattle.digest.specs.Rounds.{Leads};
 use super::functions::Words;
 use super::functions::next_word;
@@ -45,12 +45,20 @@ fn first<const T: usize>(held: &mut Held)
     held.words = step(words, constant(T), held.window[T]);
 }
 
+// The word that is due at a place: from those that stand 2, 7, 15 and 16 words back, the last at the place itself.
+fn due<const PLACE: usize>(window: [u32; 16]) -> u32
+    requires { ⌜ PLACE < 16 ⌝ }
+    ensures { λ r. ⌜ r ≡ next-word (getD window ((PLACE + 14) % 16) 0) (getD window ((PLACE + 9) % 16) 0) (getD window ((PLACE + 1) % 16) 0) (getD window PLACE 0) ⌝ }
+{
+    next_word(window[(PLACE + 14) % 16], window[(PLACE + 9) % 16], window[(PLACE + 1) % 16], window[PLACE])
+}
+
 // A round past the sixteenth, t, at the place t % 16: its word is worked out as it comes, and takes the place of the oldest.
 fn later<const PLACE: usize>(held: &mut Held, t: usize)
     requires { ⌜ (16 ≤ t) × (t < 64) × (t % 16 ≡ PLACE) ⌝ }
     ensures { λ _. ⌜ Leads t (t + 1) (now (held .entry)) (now (held .exit)) ⌝ }
 {
-    let x = next_word(held.window[(PLACE + 14) % 16], held.window[(PLACE + 9) % 16], held.window[(PLACE + 1) % 16], held.window[PLACE]);
+    let x = due::<PLACE>(held.window);
     held.window[PLACE] = x;
     let words = held.words;
     held.words = step(words, constant(t), x);

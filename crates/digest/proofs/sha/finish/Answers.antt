@@ -1,22 +1,19 @@
 use mathlib.Core.Path.{_≡_, refl, sym, ap, _∙_}
-use Prim.Native.Nat.{_+_, _/_}
+use mathlib.Core.List.{_∷_, _++_}
+use Prim.Native.Nat.{ℕ, min, _+_, _-_}
 use native.Mathlib.Omega.{arith}
 use borrow.Author.Needs.{needs}
-use lib.ListN.{length, take, drop}
-use Rattle.digest.specs.Sha256.{compress, wordsOf}
-use Rattle.digest.proofs.Blocks.{one-block, two-blocks, closed}
+use lib.ListN.{length, take, drop, replicate}
+use Rattle.std.proofs.shelf.Lists.{length-take}
+use Rattle.digest.specs.Sha256.{bytes8}
+use Rattle.digest.proofs.Blocks.{closed}
 use Rattle.digest.proofs.sha.finish.Needs as need
 
-pub returns-then-rest-lt56 : need.returns-then-rest-lt56
-returns-then-rest-lt56 c =
-    let l : length (c .close .last .buf) ≡ 64 = search needs in
-    c .take-block .ensures ∙ one-block (c .close .last .buf) (c .args .s) l ∙ closed (c .close .last .buf) (c .args .rest .now) (c .args .bits) 1 0 (c .args .s) (c .pre) (c .close .ensures) (omega arith)
-
-pub returns-else-rest-lt56 : need.returns-else-rest-lt56
-returns-else-rest-lt56 c =
-    let b = c .close-else-rest-lt56 .last .buf in
-    let h = c .take-block-t .ensures in
-    c .take-block-else-rest-lt56 .ensures
-    ∙ ap (λ v. compress v (wordsOf 16 (take 64 (drop 64 b)))) h
-    ∙ two-blocks b (c .args .s)
-    ∙ closed b (c .args .rest .now) (c .args .bits) 2 0 (c .args .s) (c .pre) (c .close-else-rest-lt56 .ensures) (omega arith)
+pub returns : need.returns
+returns c =
+    let rest = c .args .rest .now in
+    let end = c .padded-length-end .result in
+    let zeros = λ (n : ℕ). rest ++ 128 ∷ (replicate (n - (length rest + 9)) 0 ++ bytes8 (c .args .bits)) in
+    let small : min (end - 0) 128 ≡ end = omega (arith, c .padded-length-end .ensures, c .pre) in
+    let whole = c .close .ensures ∙ ap zeros (length-take (end - 0) (replicate {A = ℕ} 128 0) ∙ small) in
+    c .take-blocks .ensures ∙ closed (c .close .last .buf) rest (c .args .bits) end (c .args .s) (c .pre) (c .padded-length-end .ensures) whole

@@ -17,7 +17,7 @@ returns g c m s long h =
     let t = c .args .t in
     let w = c .args .held .now .window in
     let p = g .PLACE in
-    let x = c .next-word-x .result in
+    let x = c .due-x .result in
     let size : length w ≡ 16 = search needs in
     let low : 16 ≤ t = c .pre .0 in
     let high : t < 64 = c .pre .1 in
@@ -31,7 +31,7 @@ returns g c m s long h =
     let w15 = h .newest (t - 15) (omega arith) (omega arith) in
     let w16 = h .newest (t - 16) (omega arith) (omega arith) in
     let is = word-at m long t low high in
-    let new : x ≡ word m t = cc (c .next-word-x .ensures) in
+    let new : x ≡ word m t = cc (c .due-x .ensures) in
     let one = add-one t in
     let inside : p < length w = omega arith in
     record {
