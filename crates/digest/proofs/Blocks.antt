@@ -43,9 +43,9 @@ closes buf rest mid end x k0 k1 k2 room e0 e1 em ee e2 =
     let l0 : length (rest ++ drop k0 buf) ≡ length buf = length-append rest (drop k0 buf) ∙ omega (arith, length-drop k0 buf) in
     let l1 : length one ≡ length buf = length-set (rest ++ drop k0 buf) (length rest) x ∙ l0 in
     let front : take (length rest + 1) one ≡ rest ++ x ∷ [] =
-        take-more-set (rest ++ drop k0 buf) (length rest) x (omega arith) ∙ ap (λ l. l ++ x ∷ []) (take-at rest (drop k0 buf) (length rest) refl) in
+    take-more-set (rest ++ drop k0 buf) (length rest) x (omega arith) ∙ ap (λ l. l ++ x ∷ []) (take-at rest (drop k0 buf) (length rest) refl) in
     let most : take (length buf - 8) two ≡ (rest ++ x ∷ []) ++ mid =
-        take-putMid (length rest + 1) k1 one mid (length buf - 8) (omega arith) (omega arith) ∙ ap (λ l. l ++ mid) front in
+    take-putMid (length rest + 1) k1 one mid (length buf - 8) (omega arith) (omega arith) ∙ ap (λ l. l ++ mid) front in
     let none : drop k2 (drop (length buf - 8) two) ≡ [] = drop-all k2 (drop (length buf - 8) two) (omega (arith, length-drop (length buf - 8) two)) in
     ap (λ l. l ++ (end ++ drop k2 (drop (length buf - 8) two))) most
     ∙ ap (λ l. ((rest ++ x ∷ []) ++ mid) ++ (end ++ l)) none
@@ -93,16 +93,16 @@ digest-parts bs rest s r h =
     let lr : length rest ≡ length bs % 64 = ap length r ∙ (omega (arith, length-drop (length bs - length bs % 64) bs)) in
     let k : ℕ = (length rest + 72) / 64 in
     let lp : length P ≡ 9 + (119 - length bs % 64) % 64 =
-        ap suc (length-append (replicate ((119 - length bs % 64) % 64) 0) (bytes8 (8 * length bs % 2 ^ 64)) ∙ ap (λ n. n + 8) (length-replicate ((119 - length bs % 64) % 64) 0)) ∙ omega arith in
+    ap suc (length-append (replicate ((119 - length bs % 64) % 64) 0) (bytes8 (8 * length bs % 2 ^ 64)) ∙ ap (λ n. n + 8) (length-replicate ((119 - length bs % 64) % 64) 0)) ∙ omega arith in
     let count : length (bs ++ P) / 64 ≡ q + k = omega (arith, length-append bs P) in
     let at : length bs - length bs % 64 ≡ 64 * q = omega arith in
     let back : drop (64 * q) (bs ++ P) ≡ rest ++ P = drop-append-le (64 * q) bs P (omega arith) ∙ ap (λ l. l ++ P) (ap (λ j. drop j bs) (sym at) ∙ sym r) in
     ap bytesOf (
-      ap (λ n. blocks k (rest ++ closing n (8 * length bs % 2 ^ 64)) s) lr
-      ∙ ap (λ l. blocks k l s) (sym back)
-      ∙ ap (λ v. blocks k (drop (64 * q) (bs ++ P)) v) (h ∙ sym (blocks-front q bs P initial (omega arith)))
-      ∙ sym (blocks-split q k (bs ++ P) initial)
-      ∙ ap (λ n. blocks n (bs ++ P) initial) (sym count)
+    ap (λ n. blocks k (rest ++ closing n (8 * length bs % 2 ^ 64)) s) lr
+    ∙ ap (λ l. blocks k l s) (sym back)
+    ∙ ap (λ v. blocks k (drop (64 * q) (bs ++ P)) v) (h ∙ sym (blocks-front q bs P initial (omega arith)))
+    ∙ sym (blocks-split q k (bs ++ P) initial)
+    ∙ ap (λ n. blocks n (bs ++ P) initial) (sym count)
     )
 
 -- what `close` writes is the rest and the padding
@@ -113,7 +113,7 @@ closed b rest bits end s h e is =
     let zeros : ℕ = end - (length rest + 9) in
     let z : zeros ≡ (119 - length rest) % 64 = omega arith in
     let l : length b ≡ length rest + suc (zeros + 8) =
-        ap length is ∙ length-append rest _ ∙ ap (λ n. length rest + suc n) (length-append (replicate zeros 0) (bytes8 bits) ∙ ap (λ n. n + 8) (length-replicate zeros 0)) in
+    ap length is ∙ length-append rest _ ∙ ap (λ n. length rest + suc n) (length-append (replicate zeros 0) (bytes8 bits) ∙ ap (λ n. n + 8) (length-replicate zeros 0)) in
     let k : length b / 64 ≡ (length rest + 72) / 64 = omega arith in
     ap (λ j. blocks j b s) k ∙ ap (λ l. blocks ((length rest + 72) / 64) l s) (is ∙ ap (λ j. rest ++ 128 ∷ (replicate j 0 ++ bytes8 bits)) z)
 

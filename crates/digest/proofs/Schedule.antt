@@ -48,4 +48,3 @@ module _ (m : List ℕ) (long : length m ≡ 16) where
       let e3 : n + 1 ≡ t - 15 = omega arith in
       let it = word-next n (omega arith) in
       cc
-

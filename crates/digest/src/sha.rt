@@ -7,10 +7,10 @@ ghost use Prim.Native.Nat.{ℕ, _+_, _-_, _*_, _/_, _%_, _^_, _<_, _≤_};
 ghost use mathlib.Core.List.{_∷_, _++_};
 ghost use lib.ListN.{length, replicate};
 ghost use Rattle.digest.specs.Sha256.{blocks, initial, bytes8, closing, bytesOf, sha256, sha256-address};
-use crate::Address;
-use crate::Digest;
 use self::functions::Words;
 use self::rounds::take_block;
+use crate::Address;
+use crate::Digest;
 
 // The hash value before the first block.
 fn start() -> Words
@@ -86,7 +86,38 @@ fn output(s: Words) -> [u8; 32]
     let [g0, g1, g2, g3] = s.g.to_be_bytes();
     let [h0, h1, h2, h3] = s.h.to_be_bytes();
     [
-        a0, a1, a2, a3, b0, b1, b2, b3, c0, c1, c2, c3, d0, d1, d2, d3, e0, e1, e2, e3, f0, f1, f2, f3, g0, g1, g2, g3, h0, h1, h2, h3,
+        a0,
+        a1,
+        a2,
+        a3,
+        b0,
+        b1,
+        b2,
+        b3,
+        c0,
+        c1,
+        c2,
+        c3,
+        d0,
+        d1,
+        d2,
+        d3,
+        e0,
+        e1,
+        e2,
+        e3,
+        f0,
+        f1,
+        f2,
+        f3,
+        g0,
+        g1,
+        g2,
+        g3,
+        h0,
+        h1,
+        h2,
+        h3,
     ]
 }
 

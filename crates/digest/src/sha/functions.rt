@@ -57,14 +57,21 @@ fn small_sigma1(x: u32) -> u32
 pub fn next_word(back2: u32, back7: u32, back15: u32, back16: u32) -> u32
     ensures { λ r. ⌜ r ≡ next-word back2 back7 back15 back16 ⌝ }
 {
-    small_sigma1(back2).wrapping_add(back7).wrapping_add(small_sigma0(back15)).wrapping_add(back16)
+    small_sigma1(back2)
+        .wrapping_add(back7)
+        .wrapping_add(small_sigma0(back15))
+        .wrapping_add(back16)
 }
 
 // What a round adds to both halves, at the constant `k` and the schedule word `w`.
 fn first_temporary(s: Words, k: u32, w: u32) -> u32
     ensures { λ r. ⌜ r ≡ t1 k w s ⌝ }
 {
-    s.h.wrapping_add(big_sigma1(s.e)).wrapping_add(choose(s.e, s.f, s.g)).wrapping_add(k).wrapping_add(w)
+    s.h
+        .wrapping_add(big_sigma1(s.e))
+        .wrapping_add(choose(s.e, s.f, s.g))
+        .wrapping_add(k)
+        .wrapping_add(w)
 }
 
 // What a round adds to the first word alone.
