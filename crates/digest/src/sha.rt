@@ -1,4 +1,5 @@
 // SHA-256: whole blocks, the padding behind the last of them, and the address of the result.
+mod constants;
 mod functions;
 mod rounds;
 

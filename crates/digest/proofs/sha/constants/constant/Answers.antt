@@ -1,6 +1,6 @@
 use mathlib.Core.Path.{refl}
 use Rattle.digest.specs.Sha256.{constants}
-use Rattle.digest.proofs.sha.rounds.constant.Needs as need
+use Rattle.digest.proofs.sha.constants.constant.Needs as need
 
 pub returns : need.returns
 unfolding constants
