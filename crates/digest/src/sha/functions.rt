@@ -15,18 +15,18 @@ pub struct Words {
     pub h: u32,
 }
 
-// Where x has a one the bit of y, else that of z.
+// Where x has a one the bit of y, else that of z. With one `and`, where the definition has two.
 fn choose(x: u32, y: u32, z: u32) -> u32
     ensures { λ r. ⌜ r ≡ ch x y z ⌝ }
 {
-    (x & y) ^ (!x & z)
+    ((y ^ z) & x) ^ z
 }
 
-// The bit that at least two of the three have.
+// The bit that at least two of the three have. The next round needs x ^ y again, as its y ^ z.
 fn majority(x: u32, y: u32, z: u32) -> u32
     ensures { λ r. ⌜ r ≡ maj x y z ⌝ }
 {
-    (x & y) ^ (x & z) ^ (y & z)
+    ((x ^ y) & (y ^ z)) ^ y
 }
 
 fn big_sigma0(x: u32) -> u32
