@@ -9,7 +9,7 @@ use borrow.Rule.Slice.PartMut.{putMid}
 use Rattle.std.proofs.shelf.Parts.{take-putMid}
 use Rattle.std.proofs.shelf.Lists.{length-replicate, length-append, length-drop, length-set, take-more-set, take-at, drop-all, take-all, drop-append-le, take-append-le, append-nil, append-assoc, drop-drop}
 use Rattle.digest.specs.declared.sha.functions.Words.{Words}
-use Rattle.digest.specs.Sha256.{bigEndian, wordsOf, blocks, compress, initial, bytes8, bytesOf, closing, padded, sha256}
+use Rattle.digest.specs.Sha256.{bigEndian, wordsOf, blocks, compress, initial, bytes8, bytesOf, closing, padded, Padding-fills, sha256}
 
 pub words-more : (n : ℕ) (bs : List ℕ) → wordsOf (suc n) bs ≡ wordsOf n bs ++ bigEndian (drop (4 * n) bs) ∷ []
 unfolding wordsOf
@@ -84,6 +84,15 @@ blocks-front (suc n) xs ys s h =
     ∙ blocks-front n (drop 64 xs) ys _ (omega (arith, length-drop 64 xs))
     ∙ ap (λ l. blocks n (drop 64 xs) (compress s (wordsOf 16 l))) (take-append-le 64 xs ys (omega arith))
 
+padded-length : (bs : List ℕ) → length (padded bs) ≡ length bs + (9 + (119 - length bs % 64) % 64)
+unfolding padded
+padded-length bs =
+    let zeros : ℕ = (119 - length bs % 64) % 64 in
+    length-append bs _ ∙ ap (λ n. length bs + suc n) (length-append (replicate zeros 0) (bytes8 (8 * length bs % 2 ^ 64)) ∙ ap (λ n. n + 8) (length-replicate zeros 0)) ∙ omega arith
+
+pub padding-fills : Padding-fills
+padding-fills = record { whole = λ bs. omega (arith, padded-length bs); few = λ bs. omega (arith, padded-length bs) }
+
 pub digest-parts : (bs rest : List ℕ) (s : Words) → rest ≡ drop (length bs - length bs % 64) bs → s ≡ blocks (length bs / 64) bs initial →
     bytesOf (blocks ((length rest + 72) / 64) (rest ++ closing (length rest) (8 * length bs % 2 ^ 64)) s) ≡ sha256 bs
 unfolding sha256 padded
@@ -92,9 +101,7 @@ digest-parts bs rest s r h =
     let q : ℕ = length bs / 64 in
     let lr : length rest ≡ length bs % 64 = ap length r ∙ (omega (arith, length-drop (length bs - length bs % 64) bs)) in
     let k : ℕ = (length rest + 72) / 64 in
-    let lp : length P ≡ 9 + (119 - length bs % 64) % 64 =
-    ap suc (length-append (replicate ((119 - length bs % 64) % 64) 0) (bytes8 (8 * length bs % 2 ^ 64)) ∙ ap (λ n. n + 8) (length-replicate ((119 - length bs % 64) % 64) 0)) ∙ omega arith in
-    let count : length (bs ++ P) / 64 ≡ q + k = omega (arith, length-append bs P) in
+    let count : length (bs ++ P) / 64 ≡ q + k = omega (arith, padded-length bs) in
     let at : length bs - length bs % 64 ≡ 64 * q = omega arith in
     let back : drop (64 * q) (bs ++ P) ≡ rest ++ P = drop-append-le (64 * q) bs P (omega arith) ∙ ap (λ l. l ++ P) (ap (λ j. drop j bs) (sym at) ∙ sym r) in
     ap bytesOf (

@@ -1,5 +1,6 @@
 -- SHA-256 of FIPS 180-4, over lists of numbers: a byte is below 2 ^ 8, a word below 2 ^ 32.
-use Prim.Native.Nat.{ℕ, zero, suc, _+_, _-_, _*_, _/_, _%_, _^_}
+use Prim.Native.Nat.{ℕ, zero, suc, _+_, _-_, _*_, _/_, _%_, _^_, _<_}
+use mathlib.Core.Path.{_≡_}
 use mathlib.Core.List.{List, [], _∷_, _++_}
 use lib.ListN.{length, getD, take, drop, replicate}
 use lib.Bits.{bitAnd, bitOr, bitXor}
@@ -132,6 +133,11 @@ closing n bits = 128 ∷ (replicate ((119 - n) % 64) 0 ++ bytes8 bits)
 
 unfoldable pub padded : List ℕ → List ℕ
 padded bs = bs ++ closing (length bs % 64) (8 * length bs % 2 ^ 64)
+
+-- the padding fills whole blocks, with fewer than 64 zeros
+pub record Padding-fills : Type 0 where
+  pub whole : (bs : List ℕ) → length (padded bs) % 64 ≡ 0
+  pub few : (bs : List ℕ) → length (padded bs) < length bs + 9 + 64
 
 abbrev pub bytesOf : Words → List ℕ
 bytesOf s = bytes4 (s .a) ++ (bytes4 (s .b) ++ (bytes4 (s .c) ++ (bytes4 (s .d) ++ (bytes4 (s .e) ++ (bytes4 (s .f) ++ (bytes4 (s .g) ++ bytes4 (s .h)))))))

@@ -20,6 +20,7 @@ pub use fnv::fnv1a_64;
 pub use fnv::fnv32_vectors_stand;
 pub use sha::Sha256;
 pub use sha::Sha256Digest;
+pub use sha::padding_fills;
 ghost use Prim.Native.Nat.{ℕ};
 ghost use mathlib.Core.List.{List};
 ghost use mathlib.Core.Path.{_≡_};

@@ -7,7 +7,7 @@ ghost use mathlib.Core.Path.{_≡_};
 ghost use Prim.Native.Nat.{ℕ, _+_, _-_, _*_, _/_, _%_, _^_, _<_, _≤_};
 ghost use mathlib.Core.List.{_∷_, _++_};
 ghost use lib.ListN.{length, replicate};
-ghost use Rattle.digest.specs.Sha256.{blocks, initial, bytes8, closing, bytesOf, sha256, sha256-address};
+ghost use Rattle.digest.specs.Sha256.{blocks, initial, bytes8, closing, bytesOf, Padding-fills, sha256, sha256-address};
 use self::functions::Words;
 use self::rounds::take_block;
 use crate::Address;
@@ -151,3 +151,8 @@ pub impl Digest for Sha256 as Sha256Digest {
         Address::from_bytes(Sha256::message_digest(bytes))
     }
 }
+
+// The padding fills whole blocks, and takes no more than it must.
+pub fn padding_fills()
+    ensures { λ _. ⌜ Padding-fills ⌝ }
+{}

@@ -72,7 +72,7 @@ const K: [u32; 64] = [
 ];
 
 // The constant of round t.
-pub fn constant(t: usize) -> u32
+pub(super) fn constant(t: usize) -> u32
     requires { ⌜ t < 64 ⌝ }
     ensures { λ r. ⌜ r ≡ getD constants t 0 ⌝ }
 {

@@ -54,7 +54,7 @@ fn small_sigma1(x: u32) -> u32
 }
 
 // The schedule word that comes 2, 7, 15 and 16 places behind these four.
-pub fn next_word(back2: u32, back7: u32, back15: u32, back16: u32) -> u32
+pub(super) fn next_word(back2: u32, back7: u32, back15: u32, back16: u32) -> u32
     ensures { λ r. ⌜ r ≡ next-word back2 back7 back15 back16 ⌝ }
 {
     small_sigma1(back2)
@@ -82,7 +82,7 @@ fn second_temporary(s: Words) -> u32
 }
 
 // One round, at the constant `k` and the schedule word `w`.
-pub fn step(s: Words, k: u32, w: u32) -> Words
+pub(super) fn step(s: Words, k: u32, w: u32) -> Words
     ensures { λ r. ⌜ r ≡ round k w s ⌝ }
 {
     let t = first_temporary(s, k, w);
@@ -99,7 +99,7 @@ pub fn step(s: Words, k: u32, w: u32) -> Words
 }
 
 // The sums, word by word.
-pub fn sum(s: Words, t: Words) -> Words
+pub(super) fn sum(s: Words, t: Words) -> Words
     ensures { λ r. ⌜ r ≡ plus s t ⌝ }
 {
     Words {

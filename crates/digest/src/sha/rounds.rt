@@ -130,7 +130,7 @@ fn load(block: &[u8]) -> [u32; 16]
 }
 
 // The hash value after one block more.
-pub fn take_block(s: Words, block: &[u8]) -> Words
+pub(super) fn take_block(s: Words, block: &[u8]) -> Words
     requires { ⌜ length (now block) ≡ 64 ⌝ }
     ensures { λ r. ⌜ r ≡ compress s (wordsOf 16 (now (block .entry))) ⌝ }
 {
