@@ -1,0 +1,5 @@
+pub mod Costs
+pub mod Faults
+pub mod Laws
+pub mod Meaning
+pub mod Puts
