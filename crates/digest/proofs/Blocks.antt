@@ -7,9 +7,10 @@ use native.Mathlib.Omega.{arith}
 use lib.ListN.{length, take, drop, set, replicate}
 use borrow.Rule.Slice.PartMut.{putMid}
 use Rattle.std.proofs.shelf.Parts.{take-putMid}
-use Rattle.std.proofs.shelf.Lists.{length-replicate, length-append, length-drop, length-set, take-more-set, take-at, drop-all, take-all, drop-append-le, take-append-le, append-nil, append-assoc, drop-drop}
+use Rattle.std.proofs.shelf.Lists.{length-replicate, length-append, length-drop, length-set, take-more-set, take-at, drop-all, drop-append-le, take-append-le, append-nil, append-assoc, drop-drop}
 use Rattle.digest.specs.declared.sha.functions.Words.{Words}
-use Rattle.digest.specs.Sha256.{bigEndian, wordsOf, blocks, compress, initial, bytes8, bytesOf, closing, padded, Padding-fills, sha256}
+use Rattle.digest.specs.Bytes.{word-bytes}
+use Rattle.digest.specs.Sha256.{bigEndian, wordsOf, blocks, compress, initial, bytesOf, closing, padded, Padding-fills, sha256}
 
 pub words-more : (n : ℕ) (bs : List ℕ) → wordsOf (suc n) bs ≡ wordsOf n bs ++ bigEndian (drop (4 * n) bs) ∷ []
 unfolding wordsOf
@@ -88,7 +89,7 @@ padded-length : (bs : List ℕ) → length (padded bs) ≡ length bs + (9 + (119
 unfolding padded
 padded-length bs =
     let zeros : ℕ = (119 - length bs % 64) % 64 in
-    length-append bs _ ∙ ap (λ n. length bs + suc n) (length-append (replicate zeros 0) (bytes8 (8 * length bs % 2 ^ 64)) ∙ ap (λ n. n + 8) (length-replicate zeros 0)) ∙ omega arith
+    length-append bs _ ∙ ap (λ n. length bs + suc n) (length-append (replicate zeros 0) (word-bytes (8 * length bs % 2 ^ 64)) ∙ ap (λ n. n + 8) (length-replicate zeros 0)) ∙ omega arith
 
 pub padding-fills : Padding-fills
 padding-fills = record { whole = λ bs. omega (arith, padded-length bs); few = λ bs. omega (arith, padded-length bs) }
@@ -114,15 +115,15 @@ digest-parts bs rest s r h =
 
 -- what `close` writes is the rest and the padding
 pub closed : (b rest : List ℕ) (bits end : ℕ) (s : Words) → length rest < 64 → end ≡ (length rest + 72) / 64 * 64 →
-    b ≡ rest ++ 128 ∷ (replicate (end - (length rest + 9)) 0 ++ bytes8 bits) →
+    b ≡ rest ++ 128 ∷ (replicate (end - (length rest + 9)) 0 ++ word-bytes bits) →
     blocks (length b / 64) b s ≡ blocks ((length rest + 72) / 64) (rest ++ closing (length rest) bits) s
 closed b rest bits end s h e is =
     let zeros : ℕ = end - (length rest + 9) in
     let z : zeros ≡ (119 - length rest) % 64 = omega arith in
     let l : length b ≡ length rest + suc (zeros + 8) =
-    ap length is ∙ length-append rest _ ∙ ap (λ n. length rest + suc n) (length-append (replicate zeros 0) (bytes8 bits) ∙ ap (λ n. n + 8) (length-replicate zeros 0)) in
+    ap length is ∙ length-append rest _ ∙ ap (λ n. length rest + suc n) (length-append (replicate zeros 0) (word-bytes bits) ∙ ap (λ n. n + 8) (length-replicate zeros 0)) in
     let k : length b / 64 ≡ (length rest + 72) / 64 = omega arith in
-    ap (λ j. blocks j b s) k ∙ ap (λ l. blocks ((length rest + 72) / 64) l s) (is ∙ ap (λ j. rest ++ 128 ∷ (replicate j 0 ++ bytes8 bits)) z)
+    ap (λ j. blocks j b s) k ∙ ap (λ l. blocks ((length rest + 72) / 64) l s) (is ∙ ap (λ j. rest ++ 128 ∷ (replicate j 0 ++ word-bytes bits)) z)
 
 pub digest-by : (bs rest : List ℕ) (bits : ℕ) (s t : Words) → rest ≡ drop (length bs - length bs % 64) bs → bits ≡ 8 * length bs % 2 ^ 64 → s ≡ blocks (length bs / 64) bs initial →
     t ≡ blocks ((length rest + 72) / 64) (rest ++ closing (length rest) bits) s → bytesOf t ≡ sha256 bs

@@ -6,7 +6,7 @@ use lib.ListN.{length, getD, take, drop, replicate}
 use lib.Bits.{bitAnd, bitOr, bitXor}
 use Rattle.digest.specs.declared.address.Address.{Address}
 use Rattle.digest.specs.declared.sha.functions.Words.{Words}
-use Rattle.digest.specs.Bytes.{of-bytes}
+use Rattle.digest.specs.Bytes.{word-bytes, of-bytes}
 
 -- 2.2.2, 3.2: addition modulo 2 ^ 32, and the rotation to the right
 abbrev pub add : ℕ → ℕ → ℕ
@@ -96,7 +96,7 @@ compress s m = plus s (after m 64 s)
 
 -- 5.2.1: n words, the highest byte of each first
 abbrev pub bigEndian : List ℕ → ℕ
-bigEndian bs = getD bs 0 0 * 16777216 + getD bs 1 0 * 65536 + getD bs 2 0 * 256 + getD bs 3 0
+bigEndian bs = getD bs 0 0 * 2 ^ 24 + getD bs 1 0 * 2 ^ 16 + getD bs 2 0 * 2 ^ 8 + getD bs 3 0
 
 unfoldable pub wordsOf : ℕ → List ℕ → List ℕ
 wordsOf zero bs = []
@@ -122,14 +122,11 @@ initial =
     }
 
 abbrev pub bytes4 : ℕ → List ℕ
-bytes4 x = (x / 16777216 % 256) ∷ (x / 65536 % 256) ∷ (x / 256 % 256) ∷ (x % 256) ∷ []
-
-abbrev pub bytes8 : ℕ → List ℕ
-bytes8 x = (x / 2 ^ 56 % 256) ∷ (x / 2 ^ 48 % 256) ∷ (x / 2 ^ 40 % 256) ∷ (x / 2 ^ 32 % 256) ∷ bytes4 x
+bytes4 x = (x / 2 ^ 24 % 256) ∷ (x / 2 ^ 16 % 256) ∷ (x / 2 ^ 8 % 256) ∷ (x % 256) ∷ []
 
 -- 5.1.1: one bit, the fewest zeros with which whole blocks come out, and the length in bits, modulo 2 ^ 64
 abbrev pub closing : ℕ → ℕ → List ℕ
-closing n bits = 128 ∷ (replicate ((119 - n) % 64) 0 ++ bytes8 bits)
+closing n bits = 128 ∷ (replicate ((119 - n) % 64) 0 ++ word-bytes bits)
 
 unfoldable pub padded : List ℕ → List ℕ
 padded bs = bs ++ closing (length bs % 64) (8 * length bs % 2 ^ 64)

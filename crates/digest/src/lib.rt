@@ -26,7 +26,7 @@ ghost use mathlib.Core.List.{List};
 ghost use mathlib.Core.Path.{_≡_};
 ghost use Rattle.digest.specs.declared.address.Address.{Address};
 
-// A digest, by the function from byte strings to addresses that it computes. It is a type parameter of what uses it, never a value.
+// A digest, by the function from byte strings to addresses that it computes. Code that needs one has it as a type parameter.
 pub trait Digest {
     ghost digests: { List ℕ → Address };
 

@@ -4,10 +4,11 @@ mod functions;
 mod rounds;
 
 ghost use mathlib.Core.Path.{_≡_};
-ghost use Prim.Native.Nat.{ℕ, _+_, _-_, _*_, _/_, _%_, _^_, _<_, _≤_};
+ghost use Prim.Native.Nat.{_+_, _-_, _*_, _/_, _%_, _^_, _<_, _≤_};
 ghost use mathlib.Core.List.{_∷_, _++_};
 ghost use lib.ListN.{length, replicate};
-ghost use Rattle.digest.specs.Sha256.{blocks, initial, bytes8, closing, bytesOf, Padding-fills, sha256, sha256-address};
+ghost use Rattle.digest.specs.Bytes.{word-bytes};
+ghost use Rattle.digest.specs.Sha256.{blocks, initial, closing, bytesOf, Padding-fills, sha256, sha256-address};
 use self::functions::Words;
 use self::rounds::take_block;
 use crate::Address;
@@ -40,7 +41,7 @@ fn take_blocks(start: Words, bytes: &[u8]) -> Words
     s
 }
 
-// How many bytes the last blocks have, behind whose first n the padding stands: one block or two.
+// The length of the last blocks, where n bytes are left over and the padding follows them: one block or two.
 fn padded_length(n: usize) -> usize
     requires { ⌜ n < 64 ⌝ }
     ensures { λ r. ⌜ r ≡ (n + 72) / 64 * 64 ⌝ }
@@ -51,7 +52,7 @@ fn padded_length(n: usize) -> usize
 // Fills `buf` with `rest`, the one bit, zeros and the length in bits.
 fn close(buf: &mut [u8], rest: &[u8], bits: u64)
     requires room { ⌜ length (now rest) + 9 ≤ length (now buf) ⌝ }
-    ensures { λ _. ⌜ now (buf .exit) ≡ now (rest .entry) ++ (128 ∷ (replicate (length (now (buf .entry)) - (length (now (rest .entry)) + 9)) 0 ++ bytes8 bits)) ⌝ }
+    ensures { λ _. ⌜ now (buf .exit) ≡ now (rest .entry) ++ (128 ∷ (replicate (length (now (buf .entry)) - (length (now (rest .entry)) + 9)) 0 ++ word-bytes bits)) ⌝ }
 {
     let n = rest.len();
     let end = buf.len() - 8;
@@ -129,9 +130,8 @@ fn bit_length(n: usize) -> u64
     (n as u64).wrapping_mul(8)
 }
 
-// The digest SHA-256.
-#[derive(Clone, Copy, Debug)]
-pub struct Sha256;
+// The digest SHA-256. It has no values: code names it as a type.
+pub enum Sha256 {}
 
 impl Sha256 {
     // The 32 bytes that the standard defines for any string of bytes.

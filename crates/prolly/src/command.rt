@@ -1,4 +1,9 @@
 // A line of a script, taken apart into the call that it asks for.
+ghost use mathlib.Core.Path.{_≡_};
+ghost use Rattle.std.specs.Of.Vec.{vec-items};
+ghost use Rattle.std.specs.Vec.{made};
+ghost use Rattle.prolly.specs.Hexadecimal.{Spells};
+ghost use Rattle.prolly.specs.Named.{word-of};
 use crate::hexadecimal::HexFault;
 use crate::hexadecimal::decode;
 use std::alloc::AllocError;
@@ -89,7 +94,9 @@ fn words_of(heap: Global, text: &str) -> Result<Vec<&str>, LineError> {
     Ok(words)
 }
 
-fn digest_name(heap: Global, word: &str) -> Result<DigestName, LineError> {
+fn digest_name(heap: Global, word: &str) -> Result<DigestName, LineError>
+    ensures { λ r. ⌜ made r (λ d. word-of d ≡ now (word .entry)) ⌝ }
+{
     match word {
         "sha256" => Ok(DigestName::Sha256),
         "fnv" => Ok(DigestName::Fnv),
@@ -98,7 +105,9 @@ fn digest_name(heap: Global, word: &str) -> Result<DigestName, LineError> {
 }
 
 // A byte string: `-` for the empty one, else hexadecimal digits.
-fn byte_string(heap: Global, word: &str) -> Result<Vec<u8>, LineError> {
+fn byte_string(heap: Global, word: &str) -> Result<Vec<u8>, LineError>
+    ensures { λ r. ⌜ made r (λ v. Spells (now (word .entry)) (vec-items v)) ⌝ }
+{
     if word == "-" {
         return Ok(Vec::new(heap));
     }
@@ -112,12 +121,22 @@ fn digest_call(heap: Global, arguments: &[&str]) -> Result<Command, LineError> {
     Ok(Command::Digest(digest_name(heap, *name)?, byte_string(heap, *bytes)?))
 }
 
+// Whether a line has nothing but blanks.
+fn is_blank(text: &str) -> bool {
+    for byte in text.bytes() {
+        if byte != b' ' {
+            return false;
+        }
+    }
+    true
+}
+
 // The call that a line asks for, or none where it is blank or a comment.
 pub fn parse(heap: Global, line: &[u8]) -> Result<Option<Command>, LineError> {
     let Ok(text) = std::str::from_utf8(line) else {
         return Err(LineError::NotText);
     };
-    if text.trim().is_empty() || text.starts_with('#') {
+    if is_blank(text) || text.starts_with('#') {
         return Ok(None);
     }
     let words = words_of(heap, text)?;

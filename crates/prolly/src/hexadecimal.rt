@@ -1,7 +1,6 @@
-// Byte strings as a script writes them: lowercase hexadecimal, two digits a byte, and `-` for the empty one.
-ghost use Prim.Native.Nat.{_%_, _<_};
+// Byte strings in lowercase hexadecimal, two digits a byte.
+ghost use Prim.Native.Nat.{_<_};
 ghost use mathlib.Core.Path.{_≡_};
-ghost use lib.ListN.{length, getD};
 ghost use Rattle.std.specs.Of.Vec.{vec-items};
 ghost use Rattle.std.specs.Options.{Cases as BySome};
 ghost use Rattle.std.specs.Results.{Cases};

@@ -3,6 +3,7 @@ ghost use mathlib.Core.Path.{_≡_};
 ghost use Rattle.store.specs.Faults.{number-of, address-of, path-of};
 use digest::Address;
 use digest::AddressDebug;
+use std::fmt;
 
 // What a store answers to an accepted put: the chunk was there, or it was added.
 #[derive(Clone, Copy, Debug)]
@@ -18,6 +19,17 @@ pub enum Part {
     Tree,
     History,
     Repository,
+}
+
+pub impl fmt::Display for Part as PartDisplay {
+    fn fmt<W: fmt::Write>(&self, f: &mut fmt::Formatter<W>) -> fmt::Result {
+        match self {
+            Part::Store => f.write_str("store"),
+            Part::Tree => f.write_str("tree"),
+            Part::History => f.write_str("history"),
+            Part::Repository => f.write_str("repository"),
+        }
+    }
 }
 
 // What a store refuses. Where a chunk is concerned, the fault has its address.

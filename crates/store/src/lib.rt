@@ -11,6 +11,7 @@ pub use fallback::Fallback;
 pub use fallback::FallbackRooted;
 pub use fallback::FallbackStore;
 pub use fault::Part;
+pub use fault::PartDisplay;
 pub use fault::Put;
 pub use fault::StoreFault;
 pub use laws::costs_stand;

@@ -1,7 +1,6 @@
 // The 64 rounds over one block, with sixteen words of the schedule held at a time.
 ghost use mathlib.Core.Path.{_≡_};
-ghost use mathlib.Core.List.{List};
-ghost use Prim.Native.Nat.{ℕ, _+_, _*_, _%_, _<_, _≤_};
+ghost use Prim.Native.Nat.{_+_, _%_, _<_, _≤_};
 ghost use lib.ListN.{length, getD};
 ghost use Rattle.digest.specs.declared.sha.functions.Words.{Words};
 ghost use Rattle.digest.specs.Sha256.{next-word, compress, wordsOf};

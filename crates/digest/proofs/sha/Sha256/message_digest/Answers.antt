@@ -1,4 +1,4 @@
-use Prim.Native.Nat.{_-_, _*_, _/_, _%_}
+use Prim.Native.Nat.{_-_, _/_, _%_}
 use mathlib.Core.Path.{ap, _∙_}
 use lib.ListN.{length, take, drop}
 use Rattle.std.proofs.shelf.Lists.{take-rest}

@@ -1,4 +1,3 @@
-use mathlib.Core.Path.{refl}
 use Rattle.digest.specs.Sha256.{next-word}
 use Rattle.digest.proofs.sha.functions.next_word.Needs as need
 

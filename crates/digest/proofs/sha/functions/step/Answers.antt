@@ -1,4 +1,3 @@
-use mathlib.Core.Path.{refl}
 use Rattle.digest.specs.Sha256.{round}
 use Rattle.digest.proofs.sha.functions.step.Needs as need
 

@@ -1,4 +1,3 @@
-use mathlib.Core.Path.{refl}
 use Rattle.digest.specs.Sha256.{plus}
 use Rattle.digest.proofs.sha.functions.sum.Needs as need
 

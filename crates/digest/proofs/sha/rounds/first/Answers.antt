@@ -1,17 +1,14 @@
-use mathlib.Core.Path.{_≡_, refl, sym, ap, subst, _∙_}
-use Prim.Native.Nat.{ℕ, suc, max, _+_, _-_, _%_, _<_, _≤_}
+use mathlib.Core.Path.{_≡_}
+use Prim.Native.Nat.{_%_}
 use native.Mathlib.Numerals.{add-one}
 use native.Mathlib.Omega.{arith}
-use lib.ListN.{length, getD, set}
-use Rattle.digest.specs.Sha256.{round, constants, after, word}
-use Rattle.digest.proofs.Schedule.{word-own}
+use Rattle.digest.specs.Sha256.{after}
 use Rattle.digest.proofs.sha.rounds.first.Needs as need
 
 pub returns : need.returns
 unfolding after
 returns g c m s long h =
     let t = g .T in
-    let w = c .args .held .now .window in
     let own = h .newest t (omega arith) (omega arith) in
     let same : t % 16 ≡ t = omega arith in
     let one = add-one t in

@@ -1,12 +1,12 @@
 use mathlib.Core.Path.{_≡_, refl, sym, ap, _∙_}
 use mathlib.Core.List.{[], _∷_, _++_}
 use native.Mathlib.Nat.{add-zero}
-use Prim.Native.Nat.{_+_, _*_, suc, _<_}
+use Prim.Native.Nat.{_+_, _*_, _<_}
 use native.Mathlib.Numerals.{add-one}
 use native.Mathlib.Omega.{arith}
-use lib.ListN.{length, take, getD}
+use lib.ListN.{length, getD}
 use Rattle.std.proofs.shelf.Lists.{length-set, take-more-set, take-all, getD-drop}
-use Rattle.digest.specs.Sha256.{wordsOf, bigEndian}
+use Rattle.digest.specs.Sha256.{wordsOf}
 use Rattle.digest.proofs.Blocks.{words-more}
 use Rattle.digest.proofs.sha.rounds.load.Needs as need
 
