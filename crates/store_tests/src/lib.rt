@@ -20,16 +20,31 @@ pub impl Digest for ByLength as ByLengthDigest {
     }
 }
 
+// Another one: every byte string has the address 4.
+pub struct AlwaysFour;
+
+pub impl Digest for AlwaysFour as AlwaysFourDigest {
+    ghost digests = { λ _. record { w0 = 4; w1 = 0; w2 = 0; w3 = 0 } };
+
+    fn digest(_: &[u8]) -> Address {
+        Address {
+            w0: 4,
+            w1: 0,
+            w2: 0,
+            w3: 0,
+        }
+    }
+}
+
 #[cfg(test)]
 mod tests {
     use super::*;
     use digest::AddressDebug;
     use digest::AddressPartialEq;
-    use digest::Sha256;
-    use digest::Sha256Digest;
     use memory::MemoryRooted;
     use memory::MemoryStore;
     use memory::MemoryTable;
+    use std::alloc::Global;
     use std::test::*;
     use store::ChunkStore;
     use store::Fallback;
@@ -37,7 +52,6 @@ mod tests {
     use store::FallbackStore;
     use store::Put;
     use store::RootedStore;
-    use store::StoreFault;
     use store::Verifying;
     use store::VerifyingRooted;
     use store::VerifyingStore;
@@ -161,30 +175,59 @@ mod tests {
         )
     }
 
-    // A chunk that was put under another digest does not verify: it is bad, to put and to get, and the buffer stays.
+    // A table that has at the address 4 a chunk of seven bytes, put there by another digest.
+    fn spoilt(heap: Global) -> Result<MemoryTable, Fail> {
+        let mut table = MemoryTable::new(heap, 2048);
+        check(<MemoryTable as ChunkStore<AlwaysFour>>::put(&mut table, b"archive").is_ok())?;
+        Ok(table)
+    }
+
+    // The address 4 is bad, to put and to get, and the buffer stays.
+    fn bad_at_four<S: RootedStore<ByLength>>(store: &mut S) -> Result<(), Fail> {
+        check_eq(put(store, b"pump"), 3)?;
+        let mut buffer = [165u8; 9];
+        check_eq(get(store, 4, &mut buffer), 3)?;
+        check(buffer[0] == 165 && buffer[6] == 165 && buffer[8] == 165)?;
+        check_eq(store.free_units(), 3)
+    }
+
     #[test]
-    fn bad_chunks(rt: LibcRuntime) -> Result<(), Fail> {
-        let mut table = MemoryTable::new(rt.alloc(), 2048);
-        check_eq(put(&mut table, b"pump"), 0)?;
-        let address = Address {
-            w0: 4,
-            w1: 0,
-            w2: 0,
-            w3: 0,
-        };
-        let mut store = Verifying { inner: table };
-        let mut buffer = [165u8; 5];
-        match <Verifying<MemoryTable> as ChunkStore<Sha256>>::get(
-            &mut store,
-            address,
-            &mut buffer,
-        ) {
-            Ok(_) => check(false)?,
-            Err(fault) => {
-                check_eq(fault.number(), 3)?;
-                check_eq(fault.address(), address)?;
-            }
-        }
-        check(buffer[0] == 165)
+    fn bad_in_verifying(rt: LibcRuntime) -> Result<(), Fail> {
+        let inner = spoilt(rt.alloc())?;
+        bad_at_four(&mut Verifying { inner })
+    }
+
+    #[test]
+    fn bad_in_front(rt: LibcRuntime) -> Result<(), Fail> {
+        let inner = spoilt(rt.alloc())?;
+        let front = Verifying { inner };
+        let back = MemoryTable::new(rt.alloc(), 4096);
+        bad_at_four(&mut Fallback { front, back })
+    }
+
+    #[test]
+    fn bad_under_a_pile(rt: LibcRuntime) -> Result<(), Fail> {
+        let front = spoilt(rt.alloc())?;
+        let back = MemoryTable::new(rt.alloc(), 4096);
+        bad_at_four(
+            &mut Verifying {
+                inner: Fallback { front, back },
+            },
+        )
+    }
+
+    // The back's chunk comes before the front's bad.
+    #[test]
+    fn bad_before_a_back(rt: LibcRuntime) -> Result<(), Fail> {
+        let inner = spoilt(rt.alloc())?;
+        let front = Verifying { inner };
+        let mut back = MemoryTable::new(rt.alloc(), 4096);
+        check_eq(put(&mut back, b"pump"), 0)?;
+        let mut store = Fallback { front, back };
+        check_eq(put(&mut store, b"pump"), 100)?;
+        check_eq(put(&mut store, b"flow"), 2)?;
+        let mut buffer = [165u8; 4];
+        check_eq(get(&mut store, 4, &mut buffer), 0)?;
+        check(buffer[0] == b'p' && buffer[3] == b'p')
     }
 }

@@ -1,5 +1,5 @@
 // Computes digests that are known from elsewhere and says of each whether it is the same:
-// the example messages of the SHA-256 standard, messages around each edge of the padding, and published hashes of FNV-1a.
+// the example messages published for SHA-256, messages around each edge of the padding, and published hashes of FNV-1a.
 use digest::AddressDisplay;
 use digest::Digest;
 use digest::Fnv64;
@@ -45,7 +45,7 @@ impl Tally {
     }
 }
 
-// The messages of the standard's examples.
+// The example messages published for the standard.
 fn examples(rt: &LibcRuntime, tally: &mut Tally) -> Result<(), AnyError> {
     tally.sha256(
         rt,

@@ -21,7 +21,7 @@ loop-i-again c =
     let b = c .args .block .now in
     let lt : i < length w = omega arith in (
       length-set w i _ ∙ c .loop-i .inv .0,
-      take-more-set w i _ lt ∙ ap (λ l. l ++ c .from-be-bytes .result ∷ []) (c .loop-i .inv .1) ∙ ap (λ x. wordsOf i b ++ x ∷ []) (c .from-be-bytes .ensures ∙ rw (getD-drop, getD-drop, getD-drop, getD-drop) (ap (λ j. getD b j 0 * 16777216 + getD b (4 * i + 1) 0 * 65536 + getD b (4 * i + 2) 0 * 256 + getD b (4 * i + 3) 0) (sym (add-zero (4 * i))))) ∙ sym (words-more i b) ∙ ap (λ k. wordsOf k b) (sym (add-one i)),
+      take-more-set w i _ lt ∙ ap (λ l. l ++ c .from-be-bytes .result ∷ []) (c .loop-i .inv .1) ∙ ap (λ x. wordsOf i b ++ x ∷ []) (c .from-be-bytes .ensures ∙ simp getD-drop (ap (λ j. getD b j 0 * 16777216 + getD b (4 * i + 1) 0 * 65536 + getD b (4 * i + 2) 0 * 256 + getD b (4 * i + 3) 0) (sym (add-zero (4 * i))))) ∙ sym (words-more i b) ∙ ap (λ k. wordsOf k b) (sym (add-one i)),
     )
 
 pub returns : need.returns
