@@ -92,19 +92,16 @@ def main():
     differ = [p for p in places if p in north and p in south and north[p] != south[p]]
     only_north = [p for p in places if p not in south]
     only_south = [p for p in places if p not in north]
-    print("the same in both")
-    for place in same:
-        show("both", place, north[place])
-    print("different")
-    for place in differ:
-        show("north", place, north[place])
-        show("south", place, south[place])
-    print("only in north")
-    for place in only_north:
-        show("north", place, north[place])
-    print("only in south")
-    for place in only_south:
-        show("south", place, south[place])
+    for title, names, chosen in (
+        ("the same in both", ("both",), same),
+        ("different", ("north", "south"), differ),
+        ("only in north", ("north",), only_north),
+        ("only in south", ("south",), only_south),
+    ):
+        print(title)
+        for place in chosen:
+            for name in names:
+                show(name, place, (south if name == "south" else north)[place])
     print(f"{len(same)} the same, {len(differ)} different, {len(only_north)} only in north, {len(only_south)} only in south")
     sums = [sum(record[0] for record in records.values()) for records in (north, south)]
     print(f"the values of north add up to {sums[0]}, those of south to {sums[1]}")
