@@ -1,5 +1,7 @@
 // A pump maker's two clusters, north and south: reads the readings of both into stores, takes the address of each by both digests,
 // lists which are the same, which differ and which only one of them has, and shows what a store refuses.
+#![tactic(auto)]
+
 mod cluster;
 mod reading;
 mod refusal;

@@ -1,4 +1,6 @@
 // Digests: the address of 32 bytes that a byte string has, by SHA-256 or by FNV-1a.
+#![tactic(auto)]
+
 mod address;
 mod fnv;
 mod sha;

@@ -1,4 +1,6 @@
 // C entry points, for the measurements of bench/ to link.
+#![tactic(auto)]
+
 ghost use Rattle.std.specs.Prelude.{◌≡◌};
 ghost use Rattle.digest.specs.Sha256.{sha256_address};
 

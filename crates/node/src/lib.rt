@@ -1,4 +1,6 @@
 // The nodes of a tree: their entries, where they end, and their chunks, written and read in place.
+#![tactic(auto)]
+
 mod boundary;
 mod child;
 mod chunk;

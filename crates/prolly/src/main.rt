@@ -1,4 +1,6 @@
 // The shell: reads a script from standard input, one call a line, and prints one line for each. What the library answers, it prints.
+#![tactic(auto)]
+
 mod command;
 mod hexadecimal;
 

@@ -1,4 +1,6 @@
 // Chunk stores: what a store means to its callers, the calls that keep to it, and layers over any store.
+#![tactic(auto)]
+
 mod bytes;
 mod fallback;
 mod fault;

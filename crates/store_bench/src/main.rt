@@ -1,5 +1,7 @@
 // Puts and gets so many chunks of 456 bytes, one unit each, in a memory table, and says how long that took.
 // What it did goes to standard output, which the gate compares; the times go to standard error, for bench/run.
+#![tactic(auto)]
+
 mod front;
 
 use anyhow::anyhow;

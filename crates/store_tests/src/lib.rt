@@ -1,4 +1,6 @@
 // Tests of the stores: each refusal through each store and through a pile, a store that is full to the unit, and collisions.
+#![tactic(auto)]
+
 ghost use Rattle.std.specs.Prelude.{◌≡◌, length};
 
 use digest::{Address, Digest};

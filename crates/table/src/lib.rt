@@ -1,4 +1,6 @@
 // Keys, cells and the entries of tables.
+#![tactic(auto)]
+
 mod bytes;
 mod bytes_key;
 mod cell;

@@ -1,4 +1,6 @@
 // The tree of a table on its way into a store.
+#![tactic(auto)]
+
 mod build;
 mod level;
 mod upper;

@@ -1,4 +1,6 @@
 // What a table's tree is, and the laws of it. These functions compute nothing: each has the check ask for the proof of a theorem.
+#![tactic(auto)]
+
 ghost use Rattle.tree_laws.specs.Examples.{Examples};
 ghost use Rattle.tree_laws.specs.Laws.{CutLaws, FewLevels, RootsTell, OneTable};
 ghost use Rattle.tree_laws.specs.Tables.{RootLaws};

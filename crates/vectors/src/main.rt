@@ -1,5 +1,7 @@
 // Computes digests that are known from elsewhere and says of each whether it is the same:
 // the example messages published for SHA-256, messages around each edge of the padding, and published hashes of FNV-1a.
+#![tactic(auto)]
+
 use digest::{Digest, Fnv64, Sha256, fnv1a_32};
 use std::alloc::{AllocError, Global};
 

@@ -12,7 +12,7 @@ loop-i-preserved c =
     let b = c.args.bytes.now in
     let i = c.loop-i.i in
     let e : 64 * i + 64 - 64 * i ≡ 64 = omega arith in
-    c.take-block-s.ensures
+    c.take_block-s.ensures
     ∙ ap (λ k. compress c.loop-i.s (words_of 16 (take k (drop (64 * i) b)))) e
     ∙ ap (λ s. compress s (words_of 16 (take 64 (drop (64 * i) b)))) c.loop-i.invariant
     ∙ sym (blocks_more i b c.args.start)

@@ -8,4 +8,4 @@ pub returns : goal.returns
 returns c =
     let bs = c.args.message.now in
     let at = length bs - length bs % 64 in
-    c.output.ensures ∙ digest_by bs (take (length bs - at) (drop at bs)) c.bit-length.result c.take-blocks-s.result c.finish.result (take_rest bs at) c.bit-length.ensures (c.take-blocks-s.ensures ∙ ap (blocks (length bs / 64) bs) c.start.ensures) c.finish.ensures
+    c.output.ensures ∙ digest_by bs (take (length bs - at) (drop at bs)) c.bit_length.result c.take_blocks-s.result c.finish.result (take_rest bs at) c.bit_length.ensures (c.take_blocks-s.ensures ∙ ap (blocks (length bs / 64) bs) c.start.ensures) c.finish.ensures

@@ -10,7 +10,7 @@ loop-group-init c m s long h = h
 pub loop-group-preserved : goal.loop-group-preserved
 loop-group-preserved c m s long h =
     let e : 16 * c.loop-group.group + 16 ≡ 16 * (c.loop-group.group + 1) = omega arith in
-    subst (λ n. Holds m s n c.sixteen-more.new.held) e (c.sixteen-more.ensures m s long (c.loop-group.invariant m s long h))
+    subst (λ n. Holds m s n c.sixteen_more.new.held) e (c.sixteen_more.ensures m s long (c.loop-group.invariant m s long h))
 
 pub returns : goal.returns
 unfolding compress after
@@ -19,6 +19,6 @@ returns c =
     let s = c.args.s in
     let long : length m ≡ 16 = search rules in
     let own : (k : ℕ) → k < 16 → get_or m (k % 16) 0 ≡ get_or m k 0 = λ k l. let same : k % 16 ≡ k = omega arith in ap (λ i. get_or m i 0) same in
-    let began = c.first-sixteen.ensures m s long (record { working = refl; newest = λ k l _. own k l ∙ sym (word_own m long k l) }) in
+    let began = c.first_sixteen.ensures m s long (record { working = refl; newest = λ k l _. own k l ∙ sym (word_own m long k l) }) in
     let e : 16 * c.loop-group.group ≡ 64 = omega arith in
     c.sum.ensures ∙ ap (λ v. plus s v) ((c.loop-group.invariant m s long began).working ∙ ap (λ t. after m t s) e)

@@ -15,7 +15,7 @@ loop-i-preserved c =
     let b = c.args.block.now in
     let lt : i < length w = omega arith in (
       length-set w i _ ∙ c.loop-i.invariant.0,
-      take_more_set w i _ lt ∙ ap (λ l. l ++ c.from-be-bytes.result ∷ []) c.loop-i.invariant.1 ∙ ap (λ x. words_of i b ++ x ∷ []) (c.from-be-bytes.ensures ∙ simp get_or-drop (ap (λ j. get_or b j 0 * 16777216 + get_or b (4 * i + 1) 0 * 65536 + get_or b (4 * i + 2) 0 * 256 + get_or b (4 * i + 3) 0) (sym (add-zero (4 * i))))) ∙ sym (words_more i b) ∙ ap (λ k. words_of k b) (sym (add-one i)),
+      take_more_set w i _ lt ∙ ap (λ l. l ++ c.from_be_bytes.result ∷ []) c.loop-i.invariant.1 ∙ ap (λ x. words_of i b ++ x ∷ []) (c.from_be_bytes.ensures ∙ simp get_or-drop (ap (λ j. get_or b j 0 * 16777216 + get_or b (4 * i + 1) 0 * 65536 + get_or b (4 * i + 2) 0 * 256 + get_or b (4 * i + 3) 0) (sym (add-zero (4 * i))))) ∙ sym (words_more i b) ∙ ap (λ k. words_of k b) (sym (add-one i)),
     )
 
 pub returns : goal.returns
