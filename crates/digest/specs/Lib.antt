@@ -3,3 +3,4 @@ pub mod Fnv
 pub mod Sha256
 pub mod Rounds
 pub mod Fits
+pub mod Total
