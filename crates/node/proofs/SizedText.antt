@@ -1,5 +1,5 @@
 -- A byte string behind its length, read and written.
-use Rattle.std.proofs.Common.{◌≡◌, ℕ, ◌+◌, ◌-◌, ◌<◌, ◌≤◌, List, [], ◌∷◌, ◌++◌, length, get_or, take, drop, sym, refl, ap, ◌∙◌, one-add, arith}
+use Rattle.std.proofs.Common.{◌≡◌, ℕ, ◌+◌, ◌-◌, ◌<◌, ◌≤◌, List, [], ◌∷◌, ◌++◌, length, get_or, take, drop, sym, ap, ◌∙◌, one-add, arith}
 use Rattle.std.proofs.lemmas.List.{length-append, length-take-le, take-append-drop, append_assoc}
 use Rattle.tree_laws.specs.Layout.{sized}
 

@@ -1,4 +1,4 @@
-use Rattle.std.proofs.Common.{◌≡◌, ◌+◌, ◌<◌, ◌≤◌, Bool, true, false, ◌||◌, eqb, length, sym, refl, ap, ◌∙◌, arith}
+use Rattle.std.proofs.Common.{◌≡◌, ◌+◌, ◌<◌, true, false, eqb, length, sym, refl, ap, ◌∙◌, arith}
 use Rattle.std.proofs.lemmas.Bool.{ne_eqb, or_parts}
 use Rattle.tree_laws.specs.Boundary.{full, closes}
 use Rattle.tree_laws.proofs.Local.{full_two}
@@ -13,12 +13,12 @@ loop-i-init g c = (refl, omega arith)
 
 pub returns-then-closes : goal.returns-then-closes
 returns-then-closes g c =
-    let mark = item_marked g.K.Key.code g.I-as-Item.named c.args.level in
+    let mark = item_marked g.K.Key.code g.I.Item.named c.args.level in
     let items = c.args.items.now in
     let i = c.loop-i.i in
     let lt : i < length items = omega arith in
     let test : closes (i + 1) (mark c.index-items-i.result) (eqb (i + 1) (length items)) ≡ true =
-    ap (λ m. closes (i + 1) m (eqb (i + 1) (length items))) (sym c.has-mark-marked.ensures) ∙ sym c.if-closes.ensures
+    ap (λ m. closes (i + 1) m (eqb (i + 1) (length items))) (sym c.has_mark-marked.ensures) ∙ sym c.if-closes.ensures
     in
     record {
       some = λ h. omega arith;
@@ -33,12 +33,12 @@ returns-then-closes g c =
 
 pub loop-i-preserved : goal.loop-i-preserved
 loop-i-preserved g c =
-    let mark = item_marked g.K.Key.code g.I-as-Item.named c.args.level in
+    let mark = item_marked g.K.Key.code g.I.Item.named c.args.level in
     let items = c.args.items.now in
     let i = c.loop-i.i in
     let lt : i < length items = omega arith in
     let test : closes (i + 1) (mark c.index-items-i.result) (eqb (i + 1) (length items)) ≡ false =
-    ap (λ m. closes (i + 1) m (eqb (i + 1) (length items))) (sym c.has-mark-marked.ensures) ∙ sym c.if-closes.ensures
+    ap (λ m. closes (i + 1) m (eqb (i + 1) (length items))) (sym c.has_mark-marked.ensures) ∙ sym c.if-closes.ensures
     in
     let few = open_few (i + 1) (mark c.index-items-i.result) (or_parts (full (i + 1) (mark c.index-items-i.result)) (eqb (i + 1) (length items)) test).0 in
     (sought_more mark items i c.index-items-i.result lt c.index-items-i.is c.loop-i.invariant.0 test, omega (arith, few, c.loop-i.invariant.1))
@@ -49,5 +49,5 @@ returns g c = record {
   within = omega arith;
   few = omega (arith, c.loop-i.invariant.1, c.loop-i-test.false);
   two = λ below. absurd (omega arith);
-  cut = λ h. sought_all (item_marked g.K.Key.code g.I-as-Item.named c.args.level) c.args.items.now c.loop-i.i h c.loop-i-test.false c.loop-i.invariant.0;
+  cut = λ h. sought_all (item_marked g.K.Key.code g.I.Item.named c.args.level) c.args.items.now c.loop-i.i h c.loop-i-test.false c.loop-i.invariant.0;
 }

@@ -4,4 +4,4 @@ use Rattle.node.proofs.boundary.hash.Goals as goal
 
 pub returns : goal.returns
 unfolding fnv32 fnv32_from
-returns c = c.fnv1a-32-from.ensures ∙ ap (λ h. fnv32_from h c.args.key.now) c.fnv1a-32.ensures
+returns c = c.fnv1a_32_from.ensures ∙ ap (λ h. fnv32_from h c.args.key.now) c.fnv1a_32.ensures

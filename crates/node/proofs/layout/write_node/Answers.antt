@@ -1,7 +1,6 @@
-use Rattle.std.proofs.Common.{◌≡◌, List, [], ◌∷◌, ◌++◌, length, take, sym, ap, ◌∙◌, arith, take_all}
+use Rattle.std.proofs.Common.{[], ◌∷◌, ◌++◌, length, take, sym, ap, ◌∙◌, arith, take_all}
 use Rattle.std.specs.List.{flat_map}
 use Rattle.std.proofs.lemmas.List.{take_more, flat_map_more}
-use Rattle.node.specs.Chunks.{written}
 use Rattle.node.specs.Items.{item_bytes}
 use Rattle.node.proofs.layout.write_node.Goals as goal
 
@@ -23,12 +22,12 @@ loop-item-preserved g c =
     let i = c.loop-item.item-index in
     let x = c.item-item.result in
     let front = 1 ∷ g.K.Key.kind ∷ c.args.level ∷ length items ∷ [] in
-    let f = item_bytes g.K.Key.code g.I-as-Item.named g.I-as-Item.value in (
-      omega (arith, c.write-item.ensures.len, c.loop-item.invariant.0),
-      c.write-item.ensures.text ∙ (ap (λ w. w ++ f x) c.loop-item.invariant.1 ∙ (flat_map_more f front (take i items) x ∙ ap (λ xs. front ++ flat_map f xs) (ap (λ y. take i items ++ y ∷ []) c.item-item.is ∙ sym (take_more items i x c.loop-item-test.true)))),
+    let f = item_bytes g.K.Key.code g.I.Item.named g.I.Item.value in (
+      omega (arith, c.write_item.ensures.len, c.loop-item.invariant.0),
+      c.write_item.ensures.text ∙ (ap (λ w. w ++ f x) c.loop-item.invariant.1 ∙ (flat_map_more f front (take i items) x ∙ ap (λ xs. front ++ flat_map f xs) (ap (λ y. take i items ++ y ∷ []) c.item-item.is ∙ sym (take_more items i x c.loop-item-test.true)))),
     )
 
 pub returns : goal.returns
 returns g c =
-    let f = item_bytes g.K.Key.code g.I-as-Item.named g.I-as-Item.value in
+    let f = item_bytes g.K.Key.code g.I.Item.named g.I.Item.value in
     (omega arith, c.loop-item.invariant.1 ∙ ap (λ xs. 1 ∷ g.K.Key.kind ∷ c.args.level ∷ length c.args.items.now ∷ flat_map f xs) (take_all c.loop-item.item-index c.args.items.now c.loop-item-test.false))

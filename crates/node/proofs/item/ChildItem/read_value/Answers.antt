@@ -9,6 +9,6 @@ returns-then-s-lt36 g c x t n e = link_cut_off c.args.s.now x.at x.below t c.if-
 pub returns : goal.returns
 returns g c = (
   refl,
-  sym (link_length c.read-address-at.result c.read-number-below.result),
-  read_link c.args.s.now c.read-address-at.result c.read-number-below.result c.read-address-at.ensures c.read-number-below.ensures (drop-drop 4 32 c.args.s.now),
+  sym (link_length c.read_address-at.result c.read_number-below.result),
+  read_link c.args.s.now c.read_address-at.result c.read_number-below.result c.read_address-at.ensures c.read_number-below.ensures (drop-drop 4 32 c.args.s.now),
 )

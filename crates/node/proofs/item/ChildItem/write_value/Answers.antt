@@ -1,5 +1,4 @@
-use Rattle.std.proofs.Common.{◌≡◌, ◌++◌, length, sym, ap, ◌∙◌, arith}
-use Rattle.tree_laws.specs.Layout.{link_bytes}
+use Rattle.std.proofs.Common.{◌++◌, length, ap, ◌∙◌, arith}
 use Rattle.node.specs.Chunks.{written}
 use Rattle.node.specs.Links.{wrote_link, link_length}
 use Rattle.node.proofs.item.ChildItem.write_value.Goals as goal
@@ -11,7 +10,7 @@ returns g c =
     record {
       text =
           wrote_link (written c.args.chunk.now) (written c.append.new.self) (written c.append-2.new.self) at below
-          (c.append.ensures.text ∙ ap (λ w. written c.args.chunk.now ++ w) c.to-bytes-at.ensures)
-          (c.append-2.ensures.text ∙ ap (λ w. written c.append.new.self ++ w) c.to-be-bytes-below.ensures);
-      len = omega (arith, c.append.ensures.len, c.append-2.ensures.len, ap length c.to-bytes-at.ensures, ap length c.to-be-bytes-below.ensures, link_length at below);
+          (c.append.ensures.text ∙ ap (λ w. written c.args.chunk.now ++ w) c.to_bytes-at.ensures)
+          (c.append-2.ensures.text ∙ ap (λ w. written c.append.new.self ++ w) c.to_be_bytes-below.ensures);
+      len = omega (arith, c.append.ensures.len, c.append-2.ensures.len, ap length c.to_bytes-at.ensures, ap length c.to_be_bytes-below.ensures, link_length at below);
     }
