@@ -6,7 +6,7 @@ use Rattle.digest.specs.declared.address.Address.{Address}
 use Rattle.table.specs.Of.{cell_bytes}
 use Rattle.table.specs.declared.entry.Entry.{Entry}
 use Rattle.tree_laws.specs.Boundary.{nodes}
-use Rattle.tree_laws.specs.Layout.{Child, sized, link_bytes, row_bytes, child_bytes, node_bytes, leaf_bytes, inner_bytes}
+use Rattle.tree_laws.specs.Layout.{sized, link_bytes, row_bytes, child_bytes, node_bytes, leaf_bytes, inner_bytes}
 use Rattle.tree_laws.specs.Tree.{last_of, sum_below, row_marked, child_marked, leaves, leaf_child, inner_child, next}
 use Rattle.tree_laws.proofs.Maps.{nodes-map}
 use Rattle.tree_laws.specs.Tables.{row_of}

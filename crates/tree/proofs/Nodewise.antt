@@ -1,12 +1,9 @@
 -- A loop over the nodes of a level: one node more.
-use Rattle.std.proofs.Common.{◌≡◌, ℕ, ◌+◌, ◌-◌, ◌<◌, ◌≤◌, Bool, ◌⊎◌, List, [], ◌∷◌, ◌++◌, map, length, get_or, take, drop, sym, refl, ap, ◌∙◌, subst, ap₂, inl, inr, ⊎_elim, arith, take_all}
-use native.Mathlib.Decide.{dec_lt}
-use Rattle.std.proofs.lemmas.List.{take_rest, drop-drop, drop_more, drop_all, take_more, length-take-le, length-drop, get_or-map, map_push, length-map}
-use Rattle.std.proofs.lemmas.Bool.{cases_order}
+use Rattle.std.proofs.Common.{◌≡◌, ℕ, ◌+◌, ◌-◌, ◌<◌, ◌≤◌, Bool, List, [], ◌∷◌, ◌++◌, map, length, get_or, take, drop, sym, ap, ◌∙◌, ap₂, arith, take_all}
+use Rattle.std.proofs.lemmas.List.{take_rest, drop-drop, drop_more, take_more, length-take-le, length-drop, get_or-map, map_push, length-map}
 use Rattle.digest.specs.declared.address.Address.{Address}
 use Rattle.tree_laws.specs.Boundary.{nodes}
 use Rattle.tree_laws.specs.Layout.{Child}
-use Rattle.tree_laws.specs.Tree.{last_of}
 use Rattle.node.specs.Items.{total_below}
 use Rattle.tree.proofs.Totals.{total_part}
 

@@ -1,5 +1,5 @@
 -- A tree whose chunks were all put stands in the store.
-use Rattle.std.proofs.Common.{◌≡◌, ℕ, Bool, List, map, Ok, sym, subst}
+use Rattle.std.proofs.Common.{ℕ, Bool, List, map, Ok, sym, subst}
 use Rattle.digest.specs.declared.address.Address.{Address}
 use Rattle.store.specs.Meaning.{Meaning}
 use Rattle.store.specs.Laws.{AllHeld}

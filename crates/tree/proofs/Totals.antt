@@ -1,7 +1,6 @@
 -- The last key of a node, and the number of table entries below it.
-use Rattle.std.proofs.Common.{◌≡◌, ℕ, zero, suc, ◌+◌, ◌-◌, ◌<◌, ◌≤◌, List, [], ◌∷◌, ◌++◌, length, get_or, take, drop, sym, refl, ap, ◌∙◌, add_assoc, arith}
+use Rattle.std.proofs.Common.{◌≡◌, ℕ, suc, ◌+◌, ◌-◌, ◌<◌, List, [], ◌∷◌, ◌++◌, length, get_or, take, drop, sym, ap, ◌∙◌, add_assoc, arith}
 use Rattle.std.proofs.lemmas.List.{drop_more, take-append-drop}
-use Rattle.tree_laws.specs.Boundary.{concat}
 use Rattle.tree_laws.specs.Tree.{last_of}
 use Rattle.node.specs.Items.{total_below}
 

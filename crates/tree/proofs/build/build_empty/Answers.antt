@@ -1,4 +1,4 @@
-use Rattle.std.proofs.Common.{◌≡◌, List, [], ◌∷◌, map, sym, refl, ap, ◌∙◌, subst}
+use Rattle.std.proofs.Common.{[], ◌∷◌, map, sym, refl, ap, ◌∙◌, subst}
 use Rattle.std.proofs.lemmas.List.{nil_from_length}
 use Rattle.store.specs.Puts.{AllPut}
 use Rattle.store.proofs.Lawful.{lawful}
@@ -24,9 +24,9 @@ returns-in-Ok g c =
       kept = put.kept;
       does = λ s. (
         c.address.ensures ∙ ((lawful d).addressed (m c.args.store.now) _ c.in-Ok.put (put.answer s) ∙ (ap d none ∙ ap (λ xs. root d kind (map (row_of code) xs)) (sym nil))),
-        subst (λ xs. AllPut d (m c.args.store.now) (chunks d kind (map (row_of code) xs)) c.count.result (m c.put-node.new.store)) (sym nil)
-            (subst (λ b. AllPut d (m c.args.store.now) (b ∷ []) c.count.result (m c.put-node.new.store)) none
-            (put_one d (m c.args.store.now) (m c.put-node.new.store) _ c.in-Ok.put c.count.result (put.answer s) (put.after s) c.count.ensures.value)),
+        subst (λ xs. AllPut d (m c.args.store.now) (chunks d kind (map (row_of code) xs)) c.count.result (m c.put_node.new.store)) (sym nil)
+            (subst (λ b. AllPut d (m c.args.store.now) (b ∷ []) c.count.result (m c.put_node.new.store)) none
+            (put_one d (m c.args.store.now) (m c.put_node.new.store) _ c.in-Ok.put c.count.result (put.answer s) (put.after s) c.count.ensures.value)),
       );
     }
 
@@ -43,7 +43,7 @@ returns-in-Err g c =
     record {
       kept = put.kept;
       does = λ s.
-          subst (λ xs. Stops d (m c.args.store.now) (chunks d kind (map (row_of code) xs)) c.in-Err.fault (m c.put-node.new.store)) (sym nil)
-          (subst (λ b. Stops d (m c.args.store.now) (b ∷ []) c.in-Err.fault (m c.put-node.new.store)) none
-          (record { stop = _; at = stop_one d (m c.args.store.now) (m c.put-node.new.store) _ c.in-Err.fault (put.answer s) (put.after s); fault_is = refl }));
+          subst (λ xs. Stops d (m c.args.store.now) (chunks d kind (map (row_of code) xs)) c.in-Err.fault (m c.put_node.new.store)) (sym nil)
+          (subst (λ b. Stops d (m c.args.store.now) (b ∷ []) c.in-Err.fault (m c.put_node.new.store)) none
+          (record { stop = _; at = stop_one d (m c.args.store.now) (m c.put_node.new.store) _ c.in-Err.fault (put.answer s) (put.after s); fault_is = refl }));
     }

@@ -1,4 +1,4 @@
-use Rattle.std.proofs.Common.{◌≡◌, ℕ, ◌+◌, ◌-◌, ◌*◌, ◌<◌, ◌≤◌, map, length, take, drop, vec_items, vec_len, vec_capacity}
+use Rattle.std.proofs.Common.{◌≡◌, ◌+◌, ◌-◌, ◌*◌, ◌<◌, ◌≤◌, map, length, take, drop, vec_items, vec_len, vec_capacity}
 use Rattle.store.specs.Puts.{AllPut}
 use Rattle.tree_laws.specs.Boundary.{nodes}
 use Rattle.node.specs.Items.{item_marked, level_above, level_chunks, child_of, total_below}
@@ -7,9 +7,9 @@ use Rattle.tree.proofs.level.put_level.Given as goal
 abbrev pub invariant-loop-at : goal.invariant-loop-at
 invariant-loop-at g l =
     let code = g.K.Key.code in
-    let named = g.row.I-Item.named in
-    let value = g.row.I-Item.value in
-    let below = g.row.I-Item.below in
+    let named = g.I.Item.named in
+    let value = g.I.Item.value in
+    let below = g.I.Item.below in
     let kind = g.K.Key.kind in
     let d = g.D.Digest.digests in
     let sound = g.S.ChunkStore.sound in

@@ -1,4 +1,4 @@
-use Rattle.std.proofs.Common.{◌≡◌, ℕ, suc, ◌+◌, ◌*◌, ◌^◌, ◌<◌, ◌≤◌, List, map, length, get_or, vec_items, vec_len, vec_capacity, sym, refl, ap, ◌∙◌, subst, add-one, arith}
+use Rattle.std.proofs.Common.{◌≡◌, ◌+◌, ◌^◌, ◌<◌, ◌≤◌, map, length, get_or, vec_items, vec_len, vec_capacity, sym, refl, ap, ◌∙◌, subst, add-one, arith}
 use Rattle.std.proofs.lemmas.List.{length-map, get_or-map}
 use Rattle.tree_laws.specs.Boundary.{nodes}
 use Rattle.tree_laws.specs.Layout.{inner_bytes}
@@ -28,9 +28,9 @@ returns-in-Err g c =
     let m = g.S.ChunkStore.meaning in
     let level = c.loop-next.level in
     let here = c.loop-next.here in
-    let items = c.as-slice.result.now in
-    let is : items ≡ vec_items here = c.as-slice.ensures.value in
-    let size : length items ≡ vec_len here = c.as-slice.ensures.len in
+    let items = c.as_slice.result.now in
+    let is : items ≡ vec_items here = c.as_slice.ensures.value in
+    let size : length items ≡ vec_len here = c.as_slice.ensures.len in
     let two : 2 ≤ vec_len here = omega (arith, c.loop-next-test.true, c.len.ensures) in
     let err = c.in-Err.ensures in
     let inv = c.loop-next.invariant in
@@ -42,17 +42,17 @@ returns-in-Err g c =
       kept = λ s. err.kept (inv.5.3 s).0;
       does = λ s.
           let climb = subst (λ f. Climbing d kind (m c.args.store.now) cs₀ f level cs c.loop-next.taken (m c.loop-next.store)) fuel.1 (inv.5.3 s).1 in
-          climb_stop d kind (m c.args.store.now) (m c.loop-next.store) (m c.put-level.new.store) cs₀ fuel.0 level cs c.loop-next.taken pair climb
+          climb_stop d kind (m c.args.store.now) (m c.loop-next.store) (m c.put_level.new.store) cs₀ fuel.0 level cs c.loop-next.taken pair climb
           _ c.in-Err.stopped (inner_chunks code d kind level items ∙ ap (λ xs. map (inner_bytes kind level) (nodes (child_marked level) (map (child_of code) xs))) is) (err.does (inv.5.3 s).0);
       bound = tt;
     }
 
 pub loop-next-smaller : goal.loop-next-smaller
 loop-next-smaller g c =
-    let items = c.as-slice.result.now in
+    let items = c.as_slice.result.now in
     let mark = item_marked g.K.Key.code (λ (e : Typed g.row.K.Denot). e.key) c.loop-next.level in
-    let long : vec_len c.swap.new.x ≡ length (nodes mark items) = ap vec_len c.swap.ensures.x-after ∙ c.in-Ok.ensures.long in
-    omega (arith, long, halves mark items, c.as-slice.ensures.len, c.loop-next-test.true, c.len.ensures)
+    let long : vec_len c.swap.new.x ≡ length (nodes mark items) = ap vec_len c.swap.ensures.x_after ∙ c.in-Ok.ensures.long in
+    omega (arith, long, halves mark items, c.as_slice.ensures.len, c.loop-next-test.true, c.len.ensures)
 
 pub loop-next-preserved : goal.loop-next-preserved
 loop-next-preserved g c =
@@ -62,15 +62,15 @@ loop-next-preserved g c =
     let m = g.S.ChunkStore.meaning in
     let level = c.loop-next.level in
     let here = c.loop-next.here in
-    let items = c.as-slice.result.now in
-    let is : items ≡ vec_items here = c.as-slice.ensures.value in
-    let size : length items ≡ vec_len here = c.as-slice.ensures.len in
+    let items = c.as_slice.result.now in
+    let is : items ≡ vec_items here = c.as_slice.ensures.value in
+    let size : length items ≡ vec_len here = c.as_slice.ensures.len in
     let two : 2 ≤ vec_len here = omega (arith, c.loop-next-test.true, c.len.ensures) in
     let mark = item_marked code (λ (e : Typed g.row.K.Denot). e.key) level in
     let ok = c.in-Ok.ensures in
-    let out = c.put-level.new.out in
-    let over = c.swap.ensures.x-after in
-    let back = c.swap.ensures.y-after in
+    let out = c.put_level.new.out in
+    let over = c.swap.ensures.x_after in
+    let back = c.swap.ensures.y_after in
     let long : vec_len c.swap.new.x ≡ length (nodes mark items) = ap vec_len over ∙ ok.long in
     let inv = c.loop-next.invariant in
     let fuel = some_fuel inv.5.0 (vec_len here) two inv.5.2 in
@@ -91,7 +91,7 @@ loop-next-preserved g c =
             let pair : 2 ≤ length cs = rw length-map (omega (arith, ap length is, size, two)) in
             let climb = subst (λ f. Climbing d kind (m c.args.store.now) cs₀ f level cs c.loop-next.taken (m c.loop-next.store)) fuel.1 (inv.5.3 s).1 in (
               ok.kept (inv.5.3 s).0,
-              climb_more d kind (m c.args.store.now) (m c.loop-next.store) (m c.put-level.new.store) cs₀ fuel.0 level cs c.loop-next.taken pair climb
+              climb_more d kind (m c.args.store.now) (m c.loop-next.store) (m c.put_level.new.store) cs₀ fuel.0 level cs c.loop-next.taken pair climb
                   _ (map (child_of code) (vec_items c.swap.new.x)) (level + 1) c.in-Ok.count
                   (inner_chunks code d kind level items ∙ ap (λ xs. map (inner_bytes kind level) (nodes (child_marked level) (map (child_of code) xs))) is)
                   (ap (λ v. map (child_of code) (vec_items v)) over ∙ (ok.above (inv.5.3 s).0 ∙ (inner_children code d kind level items ∙ ap (λ xs. next d kind level (map (child_of code) xs)) is)))
