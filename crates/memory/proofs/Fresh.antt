@@ -1,5 +1,5 @@
 -- A chunk that is put into a fresh store and then read.
-use Rattle.std.proofs.Common.{◌≡◌, ℕ, ◌<◌, Bool, true, false, cond, ltb, List, length, is_ok, Ok, Err, Result, sym, refl, ap, ◌∙◌, subst, inl, inr, ltb-false, ltb-true}
+use Rattle.std.proofs.Common.{◌≡◌, ℕ, Bool, true, false, cond, ltb, List, length, is_ok, Ok, Err, Result, sym, refl, ap, ◌∙◌, subst, inr, ltb-false, ltb-true}
 use Rattle.digest.specs.declared.address.Address.{Address}
 use Rattle.store.specs.declared.fault.Put.{Put}
 use Rattle.store.specs.declared.fault.Put.TheVariants.{Taken}

@@ -1,12 +1,12 @@
 -- What a memory table holds, by its places.
-use Rattle.std.specs.Prelude.{◌≡◌, ℕ, zero, suc, ◌+◌, ◌<◌, ◌≤◌, Bool, true, false, cond, ◌&&◌, List, [], ◌∷◌, ◌++◌, length, Some, None, vec_items, vec_len, Option, Vec, slice_index_or, refl}
-use Rattle.std.proofs.Common.{sym, ap, ◌∙◌, arith, eqb-true, eq-eqb}
+use Rattle.std.specs.Prelude.{◌≡◌, ℕ, zero, suc, ◌<◌, ◌≤◌, Bool, true, false, cond, List, [], ◌∷◌, ◌++◌, length, Some, None, vec_items, vec_len, Option, Vec, slice_index_or, refl}
+use Rattle.std.proofs.Common.{sym, ap, ◌∙◌, arith}
 use Rattle.digest.specs.declared.address.Address.{Address}
 use Rattle.digest.specs.Bytes.{same_address}
 use Rattle.digest.proofs.Same.{one_address, same_self}
 use Rattle.index.specs.Chains.{place}
 use Rattle.index.proofs.Steps.{place_more, place_within}
-use Rattle.store.specs.Meaning.{Meaning, Slot, nothing, chunk, bad}
+use Rattle.store.specs.Meaning.{nothing, chunk}
 use Rattle.memory.specs.Table.{slot_at, slot_of, held, Small}
 
 small_no : (c : List ℕ) → nothing ≡ chunk c → length c ≤ 2488

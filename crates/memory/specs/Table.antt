@@ -3,7 +3,7 @@ use Rattle.std.specs.Prelude.{◌≡◌, ℕ, zero, suc, ◌/◌, ◌≤◌, min
 use Rattle.digest.specs.declared.address.Address.{Address}
 use Rattle.index.specs.Chains.{place}
 use Rattle.store.specs.Faults.{zero_address}
-use Rattle.store.specs.Meaning.{Meaning, Slot, nothing, chunk, bad}
+use Rattle.store.specs.Meaning.{Meaning, Slot, nothing, chunk}
 
 module _ {W : Type 0} where
   -- the chunk at a place

@@ -5,7 +5,6 @@ ghost use Rattle.memory.specs.Of.{table_means};
 ghost use Rattle.index.specs.Chains.{place};
 ghost use Rattle.index.specs.Of.{index_keys};
 ghost use Rattle.memory.specs.Held.{small_held};
-ghost use Rattle.std.proofs.Common.{rules, arith};
 
 use crate::MemoryTable;
 use digest::{Address, Digest};
@@ -87,7 +86,7 @@ impl<D: Digest> ChunkStore<D> for MemoryTable {
 
     ghost small = { λ s a c h. small_held (index_keys s.index) s.chunks.items a c (place (index_keys s.index) a) s.small h };
 
-    ghost few = { first_of (Prim.search rules, Prim.grind (arith, Self.row.coded.inj)) };
+    ghost few = { λ s. s.few };
 
     fn put(&mut self, chunk: &[u8]) -> Result<Put, StoreFault> {
         if chunk.len() > 2488 {
