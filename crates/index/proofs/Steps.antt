@@ -1,10 +1,10 @@
 -- How the links of the keys stand, key by key.
-use Rattle.std.proofs.Common.{◌≡◌, ℕ, zero, suc, ◌+◌, ◌-◌, ◌<◌, ◌≤◌, Bool, true, false, cond, eqb, ◌≢◌, List, [], ◌∷◌, ◌++◌, length, get_or, set, replicate, Some, None, Option, sym, refl, ap, ◌∙◌, subst, add-one, arith, length-append, length-set, get_or-set_other, get_or-set_same, below_more, eq-eqb, eqb-true}
+use Rattle.std.proofs.Common.{◌≡◌, ℕ, zero, suc, ◌+◌, ◌-◌, ◌<◌, ◌≤◌, Bool, true, false, cond, eqb, ◌≢◌, List, [], ◌∷◌, ◌++◌, length, get_or, set, replicate, Some, sym, refl, ap, ◌∙◌, subst, add-one, arith, length-append, length-set, get_or-set_other, get_or-set_same, below_more, eq-eqb, eqb-true}
 use lib.Seq.{get_or-append_seam}
 use Rattle.std.proofs.lemmas.List.{get_or_append_left}
 use Rattle.digest.specs.declared.address.Address.{Address}
 use Rattle.digest.specs.Bytes.{same_address}
-use Rattle.digest.proofs.Same.{one_address, same_self}
+use Rattle.digest.proofs.Same.{one_address}
 use Rattle.index.specs.Chains.{key, newest, place, home, latest, Firsts, Nexts}
 
 module _ (ks : List Address) (size : ℕ) where

@@ -1,12 +1,11 @@
 -- What put answers where the slot is known to hold a chunk.
-use Rattle.std.proofs.Common.{◌≡◌, ℕ, ◌-◌, ◌<◌, ◌≤◌, Bool, true, false, cond, ltb, List, length, take, Ok, Err, Result, sym, refl, ap, ◌∙◌, le-ltb}
+use Rattle.std.proofs.Common.{◌≡◌, ℕ, ◌≤◌, Bool, true, false, cond, List, length, take, Ok, Err, Result, sym, ap, ◌∙◌, le-ltb}
 use Rattle.digest.specs.declared.address.Address.{Address}
-use Rattle.store.specs.declared.fault.Put.{Put}
-use Rattle.store.specs.declared.fault.Put.TheVariants.{Held, Taken}
+use Rattle.store.specs.declared.fault.Put.TheVariants.{Held}
 use Rattle.store.specs.declared.fault.StoreFault.{StoreFault}
 use Rattle.store.specs.declared.fault.StoreFault.TheVariants.{TooLong, Collision}
-use Rattle.store.specs.Meaning.{Slot, chunk, Meaning, longest, same_bytes, put_at, put_answer, get_at, write_at}
-use Rattle.store.proofs.Slots.{Got, got}
+use Rattle.store.specs.Meaning.{chunk, Meaning, longest, same_bytes, put_at, put_answer, get_at, write_at}
+use Rattle.store.proofs.Slots.{got}
 
 module _ (d : List ℕ → Address) (m : Meaning) (c : List ℕ) (a : Address) (is : a ≡ d c) (short : length c ≤ 2488) where
   module _ (n n' : ℕ) (b k : List ℕ) (h : ◌≡◌ {A = Result ℕ StoreFault} (Ok n) (get_at (m.at a) a (length b))) (w : k ≡ write_at (m.at a) b) (e : n' ≡ n) where

@@ -1,10 +1,10 @@
 -- Slots, answers and meanings.
-use Rattle.std.proofs.Common.{◌≡◌, ℕ, ◌+◌, ◌-◌, ◌<◌, ◌≤◌, Bool, true, false, cond, ◌&&◌, eqb, ltb, ◌⊎◌, List, [], ◌∷◌, ◌++◌, length, take, drop, Ok, Err, Result, sym, refl, ap, ◌∙◌, inl, inr, arith, ltb-false, ltb-true, le-ltb, lt-ltb, eq-eqb, eqb-true}
+use Rattle.std.proofs.Common.{◌≡◌, ℕ, ◌<◌, ◌≤◌, Bool, true, false, cond, eqb, ltb, ◌⊎◌, List, [], ◌∷◌, ◌++◌, length, take, drop, Ok, Err, Result, sym, refl, ap, ◌∙◌, inl, inr, arith, ltb-false, le-ltb, lt-ltb, eq-eqb, eqb-true}
 use Rattle.std.proofs.lemmas.List.{take_at}
 use Rattle.digest.specs.declared.address.Address.{Address}
 use Rattle.digest.proofs.Same.{and_left, and_right}
 use Rattle.store.specs.declared.fault.StoreFault.{StoreFault}
-use Rattle.store.specs.declared.fault.StoreFault.TheVariants.{TooLong, Collision, Bad, NoRoom, Absent, Short, Stale, Memory}
+use Rattle.store.specs.declared.fault.StoreFault.TheVariants.{Collision, Bad, Short, Memory}
 use Rattle.store.specs.Meaning.{Slot, nothing, chunk, bad, Meaning, same_bytes, get_at, write_at}
 
 pub meaning_eq : (m n : Meaning) → ((a : Address) → m.at a ≡ n.at a) → m.free ≡ n.free → m.root ≡ n.root → m ≡ n

@@ -1,5 +1,5 @@
 -- Chunks put in turn: one more that is accepted, or the first that is refused.
-use Rattle.std.proofs.Common.{◌≡◌, ℕ, ◌+◌, ◌<◌, true, List, [], ◌∷◌, ◌++◌, length, get_or, take, is_ok, Ok, Err, Result, sym, refl, ap, ◌∙◌, subst, add-zero, add_assoc, suc-add, zero-add, arith, take_all}
+use Rattle.std.proofs.Common.{◌≡◌, ℕ, ◌+◌, ◌<◌, true, List, [], ◌∷◌, ◌++◌, length, get_or, take, is_ok, Ok, Err, sym, refl, ap, ◌∙◌, subst, add-zero, add_assoc, suc-add, zero-add, arith}
 use Rattle.std.proofs.lemmas.List.{take_more, take-append-le, length-append, get_or-append-add, get_or_append_left}
 use Rattle.std.proofs.lemmas.List.Sums.{fold_more}
 use Rattle.digest.specs.declared.address.Address.{Address}

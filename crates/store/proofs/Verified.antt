@@ -1,14 +1,14 @@
 -- The verifying layer's meaning, call by call.
-use Rattle.std.proofs.Common.{◌≡◌, ℕ, ◌+◌, ◌-◌, ◌<◌, ◌≤◌, Bool, true, false, cond, ◌&&◌, eqb, ltb, ◌⊎◌, List, [], ◌∷◌, ◌++◌, length, take, drop, is_ok, Ok, Err, Result, sym, refl, ap, ◌∙◌, subst, inl, inr, true≢false}
+use Rattle.std.proofs.Common.{◌≡◌, ℕ, Bool, true, false, cond, ltb, ◌⊎◌, List, length, take, is_ok, Ok, Err, Result, sym, refl, ap, ◌∙◌, subst, inl, inr, true≢false}
 use Rattle.digest.specs.declared.address.Address.{Address}
 use Rattle.digest.specs.Bytes.{same_address}
 use Rattle.digest.proofs.Same.{same_self, one_address}
 use Rattle.store.specs.declared.fault.Put.{Put}
 use Rattle.store.specs.declared.fault.Put.TheVariants.{Held, Taken}
 use Rattle.store.specs.declared.fault.StoreFault.{StoreFault}
-use Rattle.store.specs.declared.fault.StoreFault.TheVariants.{TooLong, Collision, Bad, NoRoom, Absent, Short, Stale, Memory}
-use Rattle.store.specs.Meaning.{Slot, nothing, chunk, bad, Meaning, longest, cost, added, same_bytes, put_at, put_answer, after_put, put_after, get_at, write_at, checked_slot, checked, OrMemory}
-use Rattle.store.proofs.Slots.{meaning_eq, one_bytes, got, Got, ok_not_err, refused_so}
+use Rattle.store.specs.declared.fault.StoreFault.TheVariants.{TooLong, Collision, Bad, NoRoom}
+use Rattle.store.specs.Meaning.{Slot, nothing, chunk, bad, Meaning, longest, cost, added, same_bytes, put_at, put_answer, after_put, get_at, write_at, checked_slot, checked, OrMemory}
+use Rattle.store.proofs.Slots.{meaning_eq, one_bytes, got, ok_not_err, refused_so}
 
 module _ (d : List ℕ → Address) where
   -- a slot that verifies is seen as it is, and any other chunk as bad

@@ -1,9 +1,9 @@
 -- Tables that agree at every key have the same entries.
-use Rattle.std.proofs.Common.{◌≡◌, ℕ, ◌≤◌, Bool, true, false, cond, not, ◌&&◌, ◌⊎◌, List, [], ◌∷◌, length, Some, None, Option, sym, refl, ap, ◌∙◌, subst, inl, inr, ⊎_elim, arith}
+use Rattle.std.proofs.Common.{◌≡◌, ℕ, Bool, true, false, not, List, [], ◌∷◌, Some, None, Option, sym, refl, ap, ◌∙◌, subst, ⊎_elim, arith}
 use Rattle.std.proofs.lemmas.Bool.{cases_Bool, cond-true, cond-false, and_parts, and_from}
 use Rattle.table.specs.declared.cell.Cell.{Cell}
 use Rattle.table.specs.declared.entry.Entry.{Entry}
-use Rattle.table.specs.Table.{Rising, same_key, Ordered, cell_at, Table, EqualTables, ByKey}
+use Rattle.table.specs.Table.{same_key, Ordered, cell_at, EqualTables, ByKey}
 
 not_true : (b : Bool) → not b ≡ true → b ≡ false
 not_true true e = sym e

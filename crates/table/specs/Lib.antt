@@ -3,3 +3,4 @@ pub mod Of
 pub mod Limits
 pub mod Table
 pub mod Texts
+pub mod Ints

@@ -1,4 +1,4 @@
-use Rattle.std.specs.Prelude.{◌≡◌, ℕ, zero, suc, ◌+◌, ◌-◌, ◌<◌, ◌≤◌, min, Bool, true, false, cond, ◌&&◌, ◌⊎◌, List, [], ◌∷◌, ◌++◌, length, take, drop, replicate, ◌==◌, nat_lt, slice_index, refl}
+use Rattle.std.specs.Prelude.{◌≡◌, ℕ, zero, suc, ◌+◌, ◌<◌, ◌≤◌, true, false, ◌⊎◌, List, [], ◌∷◌, ◌++◌, length, take, drop, replicate, ◌==◌, nat_lt, slice_index, refl}
 use Rattle.std.proofs.Common.{sym, ap, ap₂, ◌∙◌, inl, inr, ⊎_elim, arith}
 use mathlib.Core.HLevel.{is_prop→PathP}
 use Rattle.std.proofs.Math.Bool.{Bool-set}
@@ -8,7 +8,7 @@ use Rattle.table.specs.Codes.{lex_before, zeros}
 use Rattle.table.specs.declared.bytes.Bytes.{Bytes}
 use Rattle.table.specs.Of.{string}
 use Rattle.std.proofs.lemmas.List.{length-take-le, take-append-drop, length-drop, get_or-drop, get_or-take, ext_get_or}
-use Rattle.std.proofs.lemmas.Bool.{cases_eq, ltb-true, ltb-false, lt-ltb, le-ltb, eq-eqb, ne_eqb, eqb-true, cond-true, cond-false, and_parts, cases_order, and_from}
+use Rattle.std.proofs.lemmas.Bool.{cases_eq, ltb-true, lt-ltb, eq-eqb, ne_eqb, eqb-true, cond-true, cond-false, and_parts, cases_order, and_from}
 
 pub zeros_same : (xs ys : List ℕ) → length xs ≡ length ys → zeros xs ≡ true → zeros ys ≡ true → xs ≡ ys
 zeros_same [] [] n p q = refl

@@ -1,10 +1,10 @@
 // A cell: what a table has at a key.
-ghost use Rattle.std.specs.Prelude.{◌≡◌, ◌<◌, ◌≤◌, length, Decides, MatchResult};
+ghost use Rattle.std.specs.Prelude.{◌≡◌, ◌<◌, ◌≤◌, length, nat_eq, Decides, MatchResult};
 ghost use Rattle.table.specs.Of.{cell_bytes};
 ghost use Rattle.table.specs.declared.limit.Limit.TheVariants.{LongCell};
-ghost use Rattle.std.specs.Cmp.Rules.{comparing};
-ghost use Rattle.std.proofs.Common.{rules};
-ghost use Rattle.std.specs.Cmp as Keys;
+ghost use Rattle.std.specs.Cmp.{on_per, on_equiv, partial_equiv_from_equiv};
+ghost use Rattle.std.specs.Cmp.Lexicographic.{pointwise};
+ghost use Rattle.std.proofs.lemmas.Cmp.{nat_list_eq_equiv};
 
 use crate::{Bytes, Limit};
 
@@ -34,15 +34,18 @@ impl Cell {
 
 // Equal exactly when the bytes are.
 impl PartialEq for Cell {
-    ghost equals = { λ a b r. Decides r (cell_bytes a ≡ cell_bytes b) };
+    ghost eq = { λ a b. pointwise nat_eq (cell_bytes a) (cell_bytes b) };
 
-    ghost laws = { Keys.partial_equiv_from_equiv (Prim.search (comparing, rules)) };
+    ghost laws = { on_per cell_bytes (partial_equiv_from_equiv nat_list_eq_equiv) };
 
-    fn eq(&self, other: &Cell) -> bool {
+    fn eq(&self, other: &Cell) -> bool
+        ensures given { result ≡ pointwise nat_eq (cell_bytes self.now) (cell_bytes other.now) }
+        ensures decides { Decides result (cell_bytes self.now ≡ cell_bytes other.now) }
+    {
         self.bytes == other.bytes
     }
 }
 
 impl Eq for Cell {
-    ghost laws = { Prim.search (comparing, rules) };
+    ghost laws = { on_equiv cell_bytes nat_list_eq_equiv };
 }

@@ -39,23 +39,25 @@ fn read_int(s: &[u8]) -> i64
 const INT_KIND: u8 = 1;
 
 impl Key for IntKey {
+    ghost use Rattle.table.specs.Ints.{int_apart, int_total};
+
     ghost kind = { 1 };
 
     ghost code = { λ x. int_code x.value };
 
     ghost before = { λ x y. int_lt x.value y.value };
 
-    ghost byte = { first_of (Prim.search rules, Prim.grind (arith, Self.row.coded.inj)) };
+    ghost byte = { Prim.search rules };
 
-    ghost few = { first_of (Prim.search rules, Prim.grind (arith, Self.row.coded.inj)) };
+    ghost few = { Prim.search rules };
 
-    ghost apart = { first_of (Prim.search rules, Prim.grind (arith, Self.row.coded.inj)) };
+    ghost apart = { int_apart };
 
-    ghost strict = { first_of (Prim.search rules, Prim.grind (arith, Self.row.coded.inj)) };
+    ghost strict = { Prim.search rules };
 
-    ghost chain = { first_of (Prim.search rules, Prim.grind (arith, Self.row.coded.inj)) };
+    ghost chain = { Prim.search rules };
 
-    ghost total = { first_of (Prim.search rules, Prim.grind (arith, Self.row.coded.inj)) };
+    ghost total = { int_total };
 
     fn number() -> u8 {
         INT_KIND

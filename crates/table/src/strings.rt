@@ -1,9 +1,9 @@
 // Making byte strings of limited length, reading and comparing them.
-ghost use Rattle.std.specs.Prelude.{◌≡◌, ◌<◌, ◌≤◌, length, Decides, MatchOption};
+ghost use Rattle.std.specs.Prelude.{◌≡◌, ◌<◌, ◌≤◌, length, nat_eq, Decides, MatchOption};
 ghost use Rattle.table.specs.Of.{string};
-ghost use Rattle.std.specs.Cmp.Rules.{comparing};
-ghost use Rattle.std.proofs.Common.{rules, arith};
-ghost use Rattle.std.specs.Cmp as Keys;
+ghost use Rattle.std.specs.Cmp.{on_per, on_equiv, partial_equiv_from_equiv};
+ghost use Rattle.std.specs.Cmp.Lexicographic.{pointwise};
+ghost use Rattle.std.proofs.lemmas.Cmp.{nat_list_eq_equiv};
 
 use crate::Bytes;
 
@@ -43,15 +43,18 @@ fn same(a: &[u8], b: &[u8]) -> bool
 
 // Equal exactly when the strings are.
 impl<const N: usize> PartialEq for Bytes<N> {
-    ghost equals = { λ a b r. Decides r (string a ≡ string b) };
+    ghost eq = { λ a b. pointwise nat_eq (string a) (string b) };
 
-    ghost laws = { Keys.partial_equiv_from_equiv (first_of (Prim.search (comparing, rules), Prim.grind (arith, Self.row.coded.inj))) };
+    ghost laws = { on_per string (partial_equiv_from_equiv nat_list_eq_equiv) };
 
-    fn eq(&self, other: &Bytes<N>) -> bool {
+    fn eq(&self, other: &Bytes<N>) -> bool
+        ensures given { result ≡ pointwise nat_eq (string self.now) (string other.now) }
+        ensures decides { Decides result (string self.now ≡ string other.now) }
+    {
         same(self.as_slice(), other.as_slice())
     }
 }
 
 impl<const N: usize> Eq for Bytes<N> {
-    ghost laws = { first_of (Prim.search (comparing, rules), Prim.grind (arith, Self.row.coded.inj)) };
+    ghost laws = { on_equiv string nat_list_eq_equiv };
 }

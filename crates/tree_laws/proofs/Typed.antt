@@ -1,12 +1,11 @@
 -- What roots tell of tables: rows fix their entries, and roots fix rows.
-use Rattle.std.proofs.Common.{◌≡◌, ℕ, Bool, true, false, ◌⊎◌, List, [], ◌∷◌, map, sym, refl, ap, ◌∙◌, inl, inr, ⊎_elim, arith}
+use Rattle.std.proofs.Common.{◌≡◌, ℕ, Bool, List, [], ◌∷◌, map, sym, refl, ap, ◌∙◌, inl, inr, ⊎_elim, arith}
 use Rattle.std.proofs.lemmas.List.{length-map}
 use Rattle.digest.specs.declared.address.Address.{Address}
 use Rattle.digest.specs.Bytes.{Whole}
-use Rattle.table.specs.Table.{Table, EqualTables, ByKey}
+use Rattle.table.specs.Table.{ByKey}
 use Rattle.table.specs.declared.entry.Entry.{Entry}
 use Rattle.table.specs.Texts.{same_string}
-use Rattle.tree_laws.specs.Layout.{Row}
 use Rattle.tree_laws.specs.Tree.{root}
 use Rattle.tree_laws.specs.Tables.{row_of, RootLaws}
 use Rattle.tree_laws.proofs.Roots.{root_same}

@@ -1,5 +1,5 @@
 -- Where the nodes of one level end: the rule as a function that cuts, and as a relation that a reader checks.
-use Rattle.std.specs.Prelude.{◌≡◌, ℕ, suc, ◌+◌, Bool, true, false, cond, ◌&&◌, ◌||◌, List, [], ◌∷◌, ◌++◌, ◌==◌, nat_le, nat_lt}
+use Rattle.std.specs.Prelude.{◌≡◌, ℕ, ◌+◌, Bool, true, false, cond, ◌&&◌, ◌||◌, List, [], ◌∷◌, ◌++◌, ◌==◌, nat_le, nat_lt}
 use Rattle.digest.specs.Fnv.{fnv32}
 
 -- an encoded key is marked at a level: FNV-1a-32 over the level byte and then the key is below 10000000

@@ -1,5 +1,5 @@
 -- The tree of a table: its nodes level by level, its chunks in the order in which they are put, and its root.
-use Rattle.std.specs.Prelude.{◌≡◌, ℕ, zero, suc, ◌+◌, ◌≤◌, Bool, ◌⊎◌, List, [], ◌∷◌, ◌++◌, map, length, ◌≢◌}
+use Rattle.std.specs.Prelude.{◌≡◌, ℕ, zero, suc, ◌+◌, Bool, ◌⊎◌, List, [], ◌∷◌, ◌++◌, map, length, ◌≢◌}
 use Rattle.digest.specs.declared.address.Address.{Address}
 use Rattle.tree_laws.specs.Boundary.{marked, nodes}
 use Rattle.tree_laws.specs.Layout.{Row, Child, leaf_bytes, inner_bytes}

@@ -1,6 +1,6 @@
-use Rattle.std.proofs.Common.{◌≡◌, ℕ, ◌-◌, ◌<◌, ◌≤◌, cond, length, get_or, Some, None, sym, refl, ap, ◌∙◌, arith}
-use Rattle.index.specs.Chains.{key, home, latest, newest, place}
-use Rattle.index.proofs.Steps.{latest_within, from_link, latest_here, skip, newest_at}
+use Rattle.std.proofs.Common.{◌≡◌, ◌-◌, ◌<◌, cond, length, get_or, Some, sym, refl, ap, ◌∙◌, arith}
+use Rattle.index.specs.Chains.{home, latest, newest}
+use Rattle.index.proofs.Steps.{latest_within, from_link, newest_at}
 use Rattle.index.proofs.chains.walk.Goals as goal
 
 pub loop-at-init : goal.loop-at-init
@@ -14,7 +14,7 @@ returns-then-eq c =
     sym (c.loop-at.invariant.2 ∙ newest_at ks a at c.loop-at-test.true ∙ ap (λ t. cond t (Some (at - 1)) (newest ks a (at - 1))) (sym c.if-eq.ensures))
 
 -- the link of the key that was passed
-on : (c : goal.After-shared-slice-known-in-loop-at·1) → get_or c.args.next.now (c.loop-at.at - 1) 0 ≡ latest c.args.keys.now c.args.size (home c.args.size c.args.address) (c.loop-at.at - 1)
+on : (c : goal.After-shared_slice_known-in-loop-at-1) → get_or c.args.next.now (c.loop-at.at - 1) 0 ≡ latest c.args.keys.now c.args.size (home c.args.size c.args.address) (c.loop-at.at - 1)
 on c =
     let at = c.loop-at.at in
     let l : at - 1 < length c.args.keys.now = omega (arith, c.loop-at.invariant.0, c.loop-at-test.true) in

@@ -1,4 +1,4 @@
-use Rattle.std.proofs.Common.{◌≡◌, ◌-◌, ◌<◌, ◌≤◌, true, false, ◌++◌, length, take, drop, Ok, sym, refl, ap, ◌∙◌, arith}
+use Rattle.std.proofs.Common.{◌≡◌, ◌-◌, true, false, ◌++◌, take, Ok, ap, ◌∙◌, arith}
 use borrow.Rule.Slice.PartMut.{post_of}
 use Rattle.store.specs.Meaning.{checked}
 use Rattle.store.proofs.Slots.{get_bad, get_short, get_whole}
@@ -11,8 +11,8 @@ returns-then-not-verifies g c =
     let m = g.S.ChunkStore.meaning c.args.self.now.inner in
     let Sound : Type 0 = g.S.ChunkStore.sound c.args.self.now.inner in
     let a = c.args.address in
-    let n = c.in-ok-n.n in
-    let get = c.in-ok-n.ensures in
+    let n = c.in_ok-n.n in
+    let get = c.in_ok-n.ensures in
     let seen = λ (s : Sound). get_seen d m a n (n - 0) _ _ false (get.answer s) (get.written s) (omega arith) c.if-not-verifies.ensures in
     let told = λ (s : Sound). get_bad _ a c.args.buffer.now (seen s).slot in
     record { within = tt; kept = get.kept; answer = λ s. (told s).0; written = λ s. (told s).1; same = λ s. ap (checked d) (get.same s) }
@@ -23,8 +23,8 @@ returns-then-buffer-n g c =
     let m = g.S.ChunkStore.meaning c.args.self.now.inner in
     let Sound : Type 0 = g.S.ChunkStore.sound c.args.self.now.inner in
     let a = c.args.address in
-    let n = c.in-ok-n.n in
-    let get = c.in-ok-n.ensures in
+    let n = c.in_ok-n.n in
+    let get = c.in_ok-n.ensures in
     let seen = λ (s : Sound). get_seen d m a n (n - 0) _ _ true (get.answer s) (get.written s) (omega arith) c.if-not-verifies.ensures in
     let told = λ (s : Sound). get_short _ a c.args.buffer.now (seen s).bytes (seen s).slot (omega (arith, c.if-buffer-n.true, (seen s).long)) in
     record { within = tt; kept = get.kept; answer = λ s. (told s).0; written = λ s. (told s).1; same = λ s. ap (checked d) (get.same s) }
@@ -36,12 +36,12 @@ returns g c =
     let Sound : Type 0 = g.S.ChunkStore.sound c.args.self.now.inner in
     let a = c.args.address in
     let b = c.args.buffer.now in
-    let n = c.in-ok-n.n in
-    let get = c.in-ok-n.ensures in
+    let n = c.in_ok-n.n in
+    let get = c.in_ok-n.ensures in
     let seen = λ (s : Sound). get_seen d m a n (n - 0) _ _ true (get.answer s) (get.written s) (omega arith) c.if-not-verifies.ensures in
     let told = λ (s : Sound). get_whole _ a b (seen s).bytes (seen s).slot (omega (arith, c.if-buffer-n.false, (seen s).long)) in
     let z : n - 0 ≡ n = omega arith in
-    let copied = λ (s : Sound). c.copy-from-slice.ensures.after ∙ ap (λ x. take x c.get.new.buffer) z ∙ (seen s).taken in
+    let copied = λ (s : Sound). c.copy_from_slice.ensures.after ∙ ap (λ x. take x c.get.new.buffer) z ∙ (seen s).taken in
     record {
       within = omega arith;
       kept = get.kept;

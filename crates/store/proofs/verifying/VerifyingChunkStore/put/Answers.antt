@@ -40,14 +40,14 @@ returns-else-verifies g c =
       after = λ s. ap (checked d) (get.same (put.kept s) ∙ put.after s);
     }
 
-pub returns-in-default : goal.returns-in-default
-returns-in-default g c =
+pub returns-in_default : goal.returns-in_default
+returns-in_default g c =
     let d = g.D.Digest.digests in
     let m = g.S.ChunkStore.meaning c.args.self.now.inner in
     let r = Err c.in-Err.e in
     let h = c.in-Err.ensures in
     record {
       kept = h.kept;
-      answer = λ s. passes d m c.args.chunk.now r (λ a e. c.in-default.not-Collision a (err_same e)) (h.answer s);
+      answer = λ s. passes d m c.args.chunk.now r (λ a e. c.in_default.not-Collision a (err_same e)) (h.answer s);
       after = λ s. ap (checked d) (h.after s);
     }

@@ -6,8 +6,8 @@ use Rattle.table.proofs.bytes.Bytes.new.Goals as goal
 pub loop-i-init : goal.loop-i-init
 loop-i-init g c = (length-replicate g.row.N 0, λ k h. absurd (omega arith), λ k h. replicate_zero g.row.N k)
 
-pub invariant-of-result : goal.invariant-of-result
-invariant-of-result g c = (c.loop-i.invariant.0, (omega arith, (zeros_drop (length c.args.s.now) c.loop-i.bytes (λ k h. c.loop-i.invariant.2 k (omega arith)), tt)))
+pub invariant_of-result : goal.invariant_of-result
+invariant_of-result g c = record { whole = c.loop-i.invariant.0; short = omega arith; clear = zeros_drop (length c.args.s.now) c.loop-i.bytes (λ k h. c.loop-i.invariant.2 k (omega arith)) }
 
 pub returns : goal.returns
 returns g c = (omega arith, take_is c.args.s.now c.loop-i.bytes (omega (arith, c.loop-i.invariant.0)) (λ k h. c.loop-i.invariant.1 k (omega arith)))
