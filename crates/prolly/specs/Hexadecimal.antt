@@ -14,8 +14,8 @@ hex (b ∷ bs) = digit_of (b / 16) ∷ digit_of (b % 16) ∷ hex bs
 abbrev pub Digit : ℕ → Type 0
 Digit b = (d : ℕ) × (d < 16) × (digit_of d ≡ b)
 
-abbrev pub NoDigit : ℕ → Type 0
-NoDigit b = (d : ℕ) → d < 16 → digit_of d ≢ b
+abbrev pub NonDigit : ℕ → Type 0
+NonDigit b = (d : ℕ) → d < 16 → digit_of d ≢ b
 
 -- a word of a script and the byte string that it means: `-` is the empty one, any other word is its digits
 abbrev pub Spells : List ℕ → List ℕ → Type 0

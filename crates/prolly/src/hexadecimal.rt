@@ -1,6 +1,6 @@
 // Byte strings in lowercase hexadecimal, two digits a byte.
 ghost use Rattle.std.specs.Prelude.{◌≡◌, ◌<◌, MatchOption, MatchResult};
-ghost use Rattle.prolly.specs.Hexadecimal.{digit_of, hex, NoDigit};
+ghost use Rattle.prolly.specs.Hexadecimal.{digit_of, hex, NonDigit};
 ghost use Rattle.prolly.specs.declared.hexadecimal.HexFault.TheVariants.{Memory};
 ghost use Rattle.prolly.specs.Refusal.{Refuses};
 
@@ -31,7 +31,7 @@ impl<T: Drop> From<AllocFailed<T>> for HexFault {
 }
 
 fn value_of(digit: u8) -> Option<u8>
-    ensures { MatchOption result (NoDigit digit) (λ d. (d < 16) × (digit_of d ≡ digit)) }
+    ensures { MatchOption result (NonDigit digit) (λ d. (d < 16) × (digit_of d ≡ digit)) }
 {
     match digit {
         b'0'..=b'9' => Some(digit - b'0'),

@@ -1,7 +1,6 @@
 use Rattle.std.proofs.Common.{◌≡◌, ℕ, ◌+◌, ◌*◌, ◌/◌, ◌%◌, ◌<◌, List, [], ◌∷◌, ◌++◌, length, get_or, take, sym, refl, ap, ◌∙◌, arith, below_more}
 use Rattle.std.proofs.lemmas.List.{take_more, take_all, append_assoc}
 use Rattle.std.proofs.lemmas.Slice.{pushed}
-use Rattle.std.proofs.lemmas.Result.{err_from_is_err_and}
 use Rattle.prolly.specs.Hexadecimal.{digit_of, hex, Digit}
 use Rattle.prolly.proofs.hexadecimal.decode.Goals as goal
 
@@ -14,32 +13,29 @@ two_more xs i h =
     let e : 2 * (i + 1) ≡ 2 * i + 1 + 1 = omega arith in
     ap (λ n. take n xs) e ∙ take_more xs (2 * i + 1) 0 h ∙ ap (λ t. t ++ get_or xs (2 * i + 1) 0 ∷ []) (take_more xs (2 * i) 0 (omega arith)) ∙ append_assoc (take (2 * i) xs) _ _
 
-pub returns-in-err-push : goal.returns-in-err-push
-returns-in-err-push c = let p = err_from_is_err_and c.from-residual.result c.from-residual.ensures.1 in rw (p.1, p.2) tt
-
 pub loop-i-init : goal.loop-i-init
 loop-i-init c = (ap hex c.new-bytes.ensures.items, λ k h. absurd (omega arith))
 
-pub returns-in-default : goal.returns-in-default
-returns-in-default c = (omega arith, omega arith, c.in-default.ensures, c.loop-i.invariant.1)
+pub returns-in_default : goal.returns-in_default
+returns-in_default c = (omega arith, omega arith, c.in_default.ensures, c.loop-i.invariant.1)
 
-pub returns-in-default-value-of : goal.returns-in-default-value-of
-returns-in-default-value-of c =
+pub returns-in_default-value_of : goal.returns-in_default-value_of
+returns-in_default-value_of c =
     let P : ℕ → Type 0 = λ k. Digit (get_or c.args.digits.now k 0) in
-    (omega arith, omega arith, c.in-default-value-of.ensures, below_more P (2 * c.loop-i.i) c.loop-i.invariant.1 (c.in-Some.high, c.in-Some.ensures.0, c.in-Some.ensures.1))
+    (omega arith, omega arith, c.in_default-value_of.ensures, below_more P (2 * c.loop-i.i) c.loop-i.invariant.1 (c.in-Some.high, c.in-Some.ensures.0, c.in-Some.ensures.1))
 
 pub loop-i-preserved : goal.loop-i-preserved
 loop-i-preserved c =
     let i = c.loop-i.i in
     let xs = c.args.digits.now in
     let h = c.in-Some.high in
-    let l = c.in-Some-value-of.low in
+    let l = c.in-Some-value_of.low in
     let high = c.in-Some.ensures in
-    let low = c.in-Some-value-of.ensures in
+    let low = c.in-Some-value_of.ensures in
     let b = 16 * h + l in
     let up : b / 16 ≡ h = omega (arith, high.0, low.0) in
     let down : b % 16 ≡ l = omega (arith, high.0, low.0) in
-    let items = pushed (b ∷ []) refl c.in-ok-push.was c.push.ensures.items in
+    let items = pushed (b ∷ []) refl c.in_ok-push.was c.push.ensures.items in
     let P : ℕ → Type 0 = λ k. Digit (get_or xs k 0) in (
       ap hex items
           ∙ hex_push _ b

@@ -15,10 +15,10 @@ returns c =
     let of_time : SFits w64 self.time = search rules in
     let of_value : SFits w64 self.value = search rules in
     let none = c.new-bytes.ensures.items in
-    let count = pushed (c.len.result ∷ []) none c.in-ok-push.was c.push.ensures.items in
-    let tag = pushed c.as-bytes.result.now count c.in-ok-extend-from-slice.was c.extend-from-slice.ensures.items in
-    let time = pushed c.to-be-bytes.result tag c.in-ok-extend-from-slice-2.was c.extend-from-slice-2.ensures.items in
-    let value = pushed c.to-be-bytes-2.result time c.in-ok-extend-from-slice-3.was c.extend-from-slice-3.ensures.items in
-    let is = c.as-bytes.ensures.value in
-    value ∙ joined _ _ _ _ _ _ _ (c.len.ensures ∙ sym c.as-bytes.ensures.len ∙ ap length is) is
-    (c.to-be-bytes.ensures ∙ ap signed_bytes (to_z-of_z w64 self.time of_time)) (c.to-be-bytes-2.ensures ∙ ap signed_bytes (to_z-of_z w64 self.value of_value))
+    let count = pushed (c.len.result ∷ []) none c.in_ok-push.was c.push.ensures.items in
+    let tag = pushed c.as_bytes.result.now count c.in_ok-extend_from_slice.was c.extend_from_slice.ensures.items in
+    let time = pushed c.to_be_bytes.result tag c.in_ok-extend_from_slice-2.was c.extend_from_slice-2.ensures.items in
+    let value = pushed c.to_be_bytes-2.result time c.in_ok-extend_from_slice-3.was c.extend_from_slice-3.ensures.items in
+    let is = c.as_bytes.ensures.value in
+    value ∙ joined _ _ _ _ _ _ _ (c.len.ensures ∙ sym c.as_bytes.ensures.len ∙ ap length is) is
+    (c.to_be_bytes.ensures ∙ ap signed_bytes (to_z-of_z w64 self.time of_time)) (c.to_be_bytes-2.ensures ∙ ap signed_bytes (to_z-of_z w64 self.value of_value))
