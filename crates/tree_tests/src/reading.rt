@@ -97,13 +97,13 @@ fn read_back(rt: HostRuntime) -> Result<(), Fail> {
         return Err(Fail::new("the second entry is missing"));
     };
     assert!(rt; cursor.next_entry::<BytesKey>().is_none());
-    assert!(rt; first.key.as_slice() == &[2] && first.cell.as_slice() == &[7]);
-    assert!(rt; second.key.as_slice() == &[3] && second.cell.as_slice().is_empty());
+    assert!(rt; first.key.as_slice() == [2].as_slice() && first.cell.as_slice() == [7].as_slice());
+    assert!(rt; second.key.as_slice() == [3].as_slice() && second.cell.as_slice().is_empty());
     assert!(rt; encode_leaf::<BytesKey>(&[second, first]).is_err());
     let Ok(again) = encode_leaf::<BytesKey>(&[first, second]) else {
         return Err(Fail::new("the entries were refused"));
     };
-    assert!(rt; again.as_slice() == &chunk);
+    assert!(rt; again.as_slice() == chunk.as_slice());
     Ok(())
 }
 
