@@ -1,6 +1,6 @@
 -- Two tables with one root address are one table, or two of their chunks collide.
 use Rattle.std.proofs.Common.{◌≡◌, ℕ, zero, suc, ◌^◌, ◌≤◌, true, false, ◌⊎◌, List, [], ◌∷◌, ◌++◌, map, length, get_or, sym, refl, ap, ◌∙◌, subst, inl, inr, ⊎_elim, arith}
-use Rattle.std.specs.List.{AllByRecursion as All}
+use Rattle.std.specs.List.{AllByRecursion}
 use Rattle.std.proofs.lemmas.List.{length-map, map-append, map-id}
 use Rattle.std.proofs.ByRecursion.{All-map}
 use Rattle.std.proofs.lemmas.Bool.{true≢false, cases_Bool}
@@ -37,16 +37,16 @@ some_map P Q f [] h = absurd h
 some_map P Q f (x ∷ xs) (inl h) = inl (f x h)
 some_map P Q f (x ∷ xs) (inr h) = inr (some_map P Q f xs h)
 
-each : {X : Type 0} (P : X → Type 0) → ((x : X) → P x) → (xs : List X) → All P xs
+each : {X : Type 0} (P : X → Type 0) → ((x : X) → P x) → (xs : List X) → AllByRecursion P xs
 each P h [] = tt
 each P h (x ∷ xs) = (h x, each P h xs)
 
-all_parts : {X : Type 0} (P : X → Type 0) (xs ys : List X) → All P (xs ++ ys) → All P xs × All P ys
+all_parts : {X : Type 0} (P : X → Type 0) (xs ys : List X) → AllByRecursion P (xs ++ ys) → AllByRecursion P xs × AllByRecursion P ys
 all_parts P [] ys h = (tt, h)
 all_parts P (x ∷ xs) ys h = let r = all_parts P xs ys h.1 in ((h.0, r.0), r.1)
 
 -- what holds of all entries holds of those of each node
-pub all_concat : {X : Type 0} (P : X → Type 0) (ns : List (List X)) → All P (concat ns) → All (All P) ns
+pub all_concat : {X : Type 0} (P : X → Type 0) (ns : List (List X)) → AllByRecursion P (concat ns) → AllByRecursion (AllByRecursion P) ns
 all_concat P [] h = tt
 all_concat P (n ∷ ns) h = let r = all_parts P n (concat ns) h in (r.0, all_concat P ns r.1)
 
@@ -106,7 +106,7 @@ module _ (d : List ℕ → Address) (whole : (b : List ℕ) → Whole (d b)) (ki
     children_whole ns = All-map (λ c. Whole c.at) B.child ns (each _ (λ n. subst Whole (sym (B.child_at n)) (whole (B.bytes n))) ns)
 
     -- nodes with equal addresses have equal entries, or two of them collide
-    nodes_same : (ns ms : List (List X)) → All B.Ok ns → All B.Ok ms
+    nodes_same : (ns ms : List (List X)) → AllByRecursion B.Ok ns → AllByRecursion B.Ok ms
         → map (λ c. c.at) (map B.child ns) ≡ map (λ c. c.at) (map B.child ms)
         → (map B.view (concat ns) ≡ map B.view (concat ms)) ⊎ Collision d kind (map B.bytes ns) (map B.bytes ms)
     nodes_same [] [] a b e = inl refl
@@ -160,7 +160,7 @@ module _ (d : List ℕ → Address) (whole : (b : List ℕ) → Whole (d b)) (ki
 
   -- two trees from one level up: one root address, so the same entries on this level, or two chunks that collide
   pub level_same : (f : ℕ) {X V : Type 0} {l : ℕ} (B : Base d X V l) (ns ms : List (List X))
-      → (ns ≡ [] → ⊥) → (ms ≡ [] → ⊥) → length ns ≤ 2 ^ f → length ms ≤ 2 ^ f → All B.Ok ns → All B.Ok ms
+      → (ns ≡ [] → ⊥) → (ms ≡ [] → ⊥) → length ns ≤ 2 ^ f → length ms ≤ 2 ^ f → AllByRecursion B.Ok ns → AllByRecursion B.Ok ms
       → (up d kind f (suc l) (map B.child ns)).at ≡ (up d kind f (suc l) (map B.child ms)).at
       → (map B.view (concat ns) ≡ map B.view (concat ms))
       ⊎ Collision d kind (map B.bytes ns ++ chunks_up d kind f (suc l) (map B.child ns)) (map B.bytes ms ++ chunks_up d kind f (suc l) (map B.child ms))

@@ -1,6 +1,6 @@
 -- How many entries nodes have: 1 to 32, and all but the last at least 2.
 use Rattle.std.proofs.Common.{◌≡◌, ℕ, ◌+◌, ◌<◌, ◌≤◌, Bool, false, eqb, List, [], ◌∷◌, length, arith}
-use Rattle.std.specs.List.{AllByRecursion as All}
+use Rattle.std.specs.List.{AllByRecursion}
 use Rattle.std.proofs.lemmas.Bool.{or_parts, eqb-false}
 use Rattle.tree_laws.specs.Boundary.{full, nodes_from, nodes, Obeys, AllObey}
 use Rattle.tree_laws.specs.Laws.{OneTo32, TwoButLast}
@@ -21,17 +21,17 @@ module _ {X : Type 0} (mark : X → Bool) where
       let r = node_within (k + 1) (y ∷ ys) last s h.1 in
       (omega arith, omega (arith, r.1))
 
-  within_by_rule : (k : ℕ) (ns : List (List X)) → k < 32 → AllObey mark k ns → All OneTo32 ns
+  within_by_rule : (k : ℕ) (ns : List (List X)) → k < 32 → AllObey mark k ns → AllByRecursion OneTo32 ns
   within_by_rule k [] lt h = tt
   within_by_rule k (n ∷ ns) lt h =
       let r = node_within k n _ lt h.0 in
       ((r.0, omega (arith, r.1)), within_by_rule 0 ns (omega arith) h.1)
 
-  pub nodes_within_from : (k : ℕ) (xs : List X) → k < 32 → All OneTo32 (nodes_from mark k xs)
+  pub nodes_within_from : (k : ℕ) (xs : List X) → k < 32 → AllByRecursion OneTo32 (nodes_from mark k xs)
   nodes_within_from k xs lt = within_by_rule k (nodes_from mark k xs) lt (rule_holds mark k xs)
 
   -- every node has 1 to 32 entries
-  pub nodes_within : (xs : List X) → All OneTo32 (nodes mark xs)
+  pub nodes_within : (xs : List X) → AllByRecursion OneTo32 (nodes mark xs)
   nodes_within xs = nodes_within_from 0 xs (omega arith)
 
   node_two : (k : ℕ) (n : List X) → Obeys mark k n false → 2 ≤ k + length n

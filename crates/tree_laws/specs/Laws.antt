@@ -1,6 +1,6 @@
 -- What holds of cuts, levels and roots, for any entries, marks and digests.
 use Rattle.std.specs.Prelude.{◌≡◌, ℕ, ◌≤◌, Bool, ◌⊎◌, List, [], ◌∷◌, ◌++◌, map, length}
-use Rattle.std.specs.List.{AllByRecursion as All}
+use Rattle.std.specs.List.{AllByRecursion}
 use Rattle.digest.specs.declared.address.Address.{Address}
 use Rattle.digest.specs.Bytes.{Whole}
 use Rattle.store.specs.Meaning.{Meaning}
@@ -11,7 +11,7 @@ use Rattle.tree_laws.specs.Tree.{leaves, leaf_child, up, root, chunks, Collision
 
 -- each address in these entries has 32 bytes
 abbrev pub AllWhole : List Child → Type 0
-AllWhole cs = All (λ c. Whole c.at) cs
+AllWhole cs = AllByRecursion (λ c. Whole c.at) cs
 
 -- a table has at most so many rows
 abbrev pub most_rows : ℕ
@@ -38,7 +38,7 @@ pub record CutLaws (X : Type 0) : Type 0 where
   -- the old nodes are fs, o ∷ os and bs, and the entries of o ∷ os become new: if new ends at a boundary or nothing is behind it, then fs and bs stay
   pub meets : (mark : X → Bool) (xs new : List X) (fs : List (List X)) (o : List X) (os bs : List (List X)) → nodes mark xs ≡ fs ++ ((o ∷ os) ++ bs) → (held_from mark 0 new ≡ 0) ⊎ (bs ≡ []) → nodes mark (concat fs ++ (new ++ concat bs)) ≡ fs ++ (nodes mark new ++ bs)
   -- sizes
-  pub within : (mark : X → Bool) (xs : List X) → All OneTo32 (nodes mark xs)
+  pub within : (mark : X → Bool) (xs : List X) → AllByRecursion OneTo32 (nodes mark xs)
   pub two_but_last : (mark : X → Bool) (xs : List X) → TwoButLast (nodes mark xs)
 
 pub record FewLevels : Type 0 where
