@@ -82,11 +82,6 @@ lex_total (x ∷ xs) (y ∷ ys) p q =
     (λ (a : y < x). absurd (never (sym q ∙ made_less y x ys xs a))))
     (cases_order x y)
 
-pub zeros_get : (xs : List ℕ) → zeros xs ≡ true → (k : ℕ) → slice_index xs k ≡ 0
-zeros_get [] h k = refl
-zeros_get (x ∷ xs) h zero = eqb-true x 0 (and_parts (x == 0) (zeros xs) h).0
-zeros_get (x ∷ xs) h (suc k) = zeros_get xs (and_parts (x == 0) (zeros xs) h).1 k
-
 pub replicate_zero : (n k : ℕ) → ◌≡◌ {A = ℕ} (slice_index (replicate n 0) k) 0
 replicate_zero zero k = refl
 replicate_zero (suc n) zero = refl

@@ -1,4 +1,5 @@
 // Trees built into fresh stores. The roots and the numbers of nodes were computed by another program, from the documents.
+use crate::build_in_pile;
 use digest::{Address, Sha256};
 use memory::MemoryTable;
 use node::{TreeFault, is_marked};
@@ -91,6 +92,20 @@ fn largest(rt: HostRuntime) -> Result<(), Fail> {
     let entries = consecutive(heap, 0, 65_537)?;
     assert_eq!(rt; number(heap, 16_777_216, entries.as_slice()), 17);
     Ok(())
+}
+
+// The same tree as in a bare table.
+#[test]
+fn in_a_pile(rt: HostRuntime) -> Result<(), Fail> {
+    let heap = rt.alloc();
+    let entries = consecutive(heap, 0, 1_000)?;
+    match build_in_pile::<IntKey, Sha256>(heap, 16_777_216, entries.as_slice()) {
+        Ok(built) => {
+            assert_eq!(rt; (built.root.w0, built.taken), (0x2cc1_04ab_297b_82d8, 62));
+            Ok(())
+        }
+        Err(_) => Err(Fail::new("the build was refused")),
+    }
 }
 
 // By their encoded bytes the negative keys would stand behind the others.
