@@ -6,14 +6,14 @@ use digest::Address;
 use std::fmt;
 
 // What a store answers to an accepted put: the chunk was there, or it was added.
-#[derive(Clone, Copy, Debug)]
+#[derive(Clone, Copy, Debug, PartialEq, Eq)]
 pub enum Put {
     Held(Address),
     Taken(Address),
 }
 
 // The parts that a fault can start at and pass on its way up.
-#[derive(Clone, Copy, Debug)]
+#[derive(Clone, Copy, Debug, PartialEq, Eq)]
 pub enum Part {
     Store,
     Tree,
@@ -33,7 +33,7 @@ impl fmt::Display for Part {
 }
 
 // What a store refuses. Where a chunk is concerned, the fault has its address.
-#[derive(Clone, Copy, Debug)]
+#[derive(Clone, Copy, Debug, PartialEq, Eq)]
 pub enum StoreFault {
     TooLong,
     Collision(Address),
