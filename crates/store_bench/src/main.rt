@@ -4,7 +4,7 @@
 
 mod front;
 
-use anyhow::anyhow;
+use anyhow::Context;
 use front::{Front, address_of};
 use memory::MemoryTable;
 use std::env;
@@ -41,7 +41,7 @@ fn get_chunks(table: &mut MemoryTable, count: u64, buffer: &mut [u8]) -> u64 {
     for number in 0..count {
         let chunk = chunk_of(number);
         let address = address_of(&chunk);
-        if let Ok(_) = <MemoryTable as ChunkStore<Front>>::get(table, address, buffer) {
+        if <MemoryTable as ChunkStore<Front>>::get(table, address, buffer).is_ok() {
             read = read.saturating_add(1);
         }
     }
@@ -49,11 +49,7 @@ fn get_chunks(table: &mut MemoryTable, count: u64, buffer: &mut [u8]) -> u64 {
 }
 
 fn run(rt: &HostRuntime) -> anyhow::Result<()> {
-    let mut args = env::args(rt)?;
-    let _ = args.next();
-    let Some(count) = args.next() else {
-        return Err(anyhow!("how many chunks?"));
-    };
+    let count = env::args(rt)?.nth(1).context("how many chunks?")?;
     let count = count.as_str().parse::<u64>()?;
     let mut table = MemoryTable::new(rt.alloc(), 536_870_912);
     let start = Instant::now(rt)?;
