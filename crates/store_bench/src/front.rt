@@ -12,7 +12,7 @@ pub fn address_of(bytes: &[u8]) -> Address
 {
     bytes
         .first_chunk()
-        .map_or(Address::ZERO, |front| Address::from_bytes(*front))
+        .map_or(Address::ZERO, |front| Address::from(*front))
 }
 
 impl Digest for Front {

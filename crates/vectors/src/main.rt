@@ -2,7 +2,7 @@
 // the example messages published for SHA-256, messages around each edge of the padding, and published hashes of FNV-1a.
 #![tactic(auto)]
 
-use digest::{Digest, Fnv64, Sha256, fnv1a_32};
+use digest::{Digest, Fnv64, Sha256, fnv1a};
 
 // How many were the same, and how many differed.
 #[derive(Clone, Copy, Default)]
@@ -149,7 +149,7 @@ fn fnv(rt: &HostRuntime, tally: &mut Tally) -> anyhow::Result<()> {
         ),
     ];
     for (message, known32, known64) in messages {
-        let hash = fnv1a_32(message);
+        let hash = fnv1a::<u32>(message);
         let computed = format!(in rt.alloc(); "{hash:08x}")?;
         tally.note(rt, "FNV-1a-32", computed.as_str(), known32)?;
         let address = Fnv64::digest(message);
