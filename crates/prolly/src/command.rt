@@ -40,14 +40,15 @@ pub enum LineError {
 
 // The words of a line.
 fn words_of(heap: Global, text: &str) -> Result<Vec<&str>, LineError> {
-    let mut words = Vec::new(heap);
-    for word in text.split(' ') {
-        if word.is_empty() {
-            return Err(LineError::Blanks);
-        }
-        words.push(word)?;
-    }
-    Ok(words)
+    text.split(' ')
+        .map(|word| -> Result<&str, LineError> {
+            if word.is_empty() {
+                Err(LineError::Blanks)
+            } else {
+                Ok(word)
+            }
+        })
+        .try_collect(heap)
 }
 
 fn digest_name(heap: Global, word: &str) -> Result<DigestName, LineError>

@@ -23,29 +23,21 @@ fn chunk_of(number: u64) -> [u8; CHUNK] {
     chunk
 }
 
-fn put_chunks(table: &mut MemoryTable, count: u64) -> u64 {
-    let mut taken = 0u64;
-    for number in 0..count {
-        if let Ok(Put::Taken(_)) = <MemoryTable as ChunkStore<Front>>::put(
-            table,
-            &chunk_of(number),
-        ) {
-            taken = taken.saturating_add(1);
-        }
-    }
-    taken
+fn put_chunks(table: &mut MemoryTable, count: u64) -> usize {
+    (0..count)
+        .map(|number| <MemoryTable as ChunkStore<Front>>::put(table, &chunk_of(number)))
+        .filter(|answer| matches!(answer, Ok(Put::Taken(_))))
+        .count()
 }
 
-fn get_chunks(table: &mut MemoryTable, count: u64, buffer: &mut [u8]) -> u64 {
-    let mut read = 0u64;
-    for number in 0..count {
-        let chunk = chunk_of(number);
-        let address = address_of(&chunk);
-        if <MemoryTable as ChunkStore<Front>>::get(table, address, buffer).is_ok() {
-            read = read.saturating_add(1);
-        }
-    }
-    read
+fn get_chunks(table: &mut MemoryTable, count: u64, buffer: &mut [u8]) -> usize {
+    (0..count)
+        .map(|number| {
+            let address = address_of(&chunk_of(number));
+            <MemoryTable as ChunkStore<Front>>::get(table, address, buffer)
+        })
+        .filter(|answer| answer.is_ok())
+        .count()
 }
 
 fn run(rt: &HostRuntime) -> anyhow::Result<()> {
