@@ -26,12 +26,7 @@ pub fn encode_items<K: Key, I: Item<K>>(level: u8, items: &[I]) -> Result<Chunk,
     if !is_node::<K, I>(level, items) {
         return Err(TreeFault::Malformed);
     }
-    let mut chunk = Chunk::new();
-    if write_node::<K, I>(&mut chunk, level, items) {
-        Ok(chunk)
-    } else {
-        Err(TreeFault::Malformed)
-    }
+    write_node::<K, I>(level, items).ok_or(TreeFault::Malformed)
 }
 
 // The chunk of a leaf with these entries; refused where there are more than 32 or their keys do not rise.
