@@ -7,6 +7,7 @@ ghost use Rattle.node.specs.Chunks.{written};
 ghost use Rattle.table.specs.Texts.{same_string};
 ghost use Rattle.tree_laws.proofs.Layouts.{same_sized};
 ghost use Rattle.std.proofs.Common.{rules, arith};
+ghost use Rattle.node.specs.Nodes.{entry_key, entry_value, leaf_level, child_key, child_value, inner_level};
 ghost use Rattle.node.specs.Links.{link_length, same_link, whole_prop};
 ghost use mathlib.Core.HLevel.{is_prop→PathP};
 ghost use Rattle.std.proofs.Math.Bridge.{le_prop};
@@ -68,13 +69,13 @@ pub(crate) fn read_sized(s: &[u8]) -> Option<&[u8]>
 }
 
 impl<K: Key> Item<K> for Entry<K> {
-    ghost named = { λ e. e.key };
+    ghost named = { entry_key };
 
-    ghost value = { λ e. sized (cell_bytes e.cell) };
+    ghost value = { entry_value };
 
     ghost below = { λ _. 1 };
 
-    ghost holds = { λ l. (l == 0) };
+    ghost holds = { leaf_level };
 
     ghost short = { Prim.search rules };
 
@@ -129,13 +130,13 @@ fn read_number(s: &[u8]) -> u32
 }
 
 impl<K: Key> Item<K> for Child<K> {
-    ghost named = { λ c. c.key };
+    ghost named = { child_key };
 
-    ghost value = { λ c. link_bytes c.at c.below };
+    ghost value = { child_value };
 
     ghost below = { λ c. c.below };
 
-    ghost holds = { λ l. nat_le 1 l && nat_le l 15 };
+    ghost holds = { inner_level };
 
     ghost short = { λ x. omega (arith, link_length x.at x.below) };
 

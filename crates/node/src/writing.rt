@@ -7,7 +7,8 @@ use crate::chunk::Chunk;
 impl Chunk {
     // An empty one.
     pub fn new() -> Chunk
-        ensures { written result ≡ [] }
+        ensures text { written result ≡ [] }
+        ensures len { result.len ≡ 0 }
     {
         Chunk {
             bytes: [0; 2488],
@@ -20,14 +21,6 @@ impl Chunk {
         ensures { result.now ≡ written self.now }
     {
         &self.bytes[0..self.len]
-    }
-
-    // Takes back all that was written.
-    pub(crate) fn clear(&mut self)
-        ensures text { written self.new ≡ [] }
-        ensures len { self.new.len ≡ 0 }
-    {
-        self.len = 0;
     }
 
     // One byte more.

@@ -6,13 +6,13 @@ use Rattle.node.proofs.layout.write_node.Goals as goal
 
 pub loop-item-init : goal.loop-item-init
 loop-item-init g c =
-    let e0 = c.clear.ensures.text in
+    let e0 = c.new-chunk.ensures.text in
     let e1 = c.push.ensures.text in
     let e2 = c.push-2.ensures.text in
     let e3 = c.push-3.ensures.text in
     let e4 = c.push-4.ensures.text in
     let k = c.number.ensures in (
-      omega (arith, c.clear.ensures.len, c.push.ensures.len, c.push-2.ensures.len, c.push-3.ensures.len, c.push-4.ensures.len),
+      omega (arith, c.new-chunk.ensures.len, c.push.ensures.len, c.push-2.ensures.len, c.push-3.ensures.len, c.push-4.ensures.len),
       e4 ∙ (ap (λ w. w ++ length c.args.items.now ∷ []) (e3 ∙ ap (λ w. w ++ c.args.level ∷ []) (e2 ∙ ap (λ w. w ++ c.number.result ∷ []) (e1 ∙ ap (λ w. w ++ 1 ∷ []) e0))) ∙ ap (λ k. 1 ∷ k ∷ c.args.level ∷ length c.args.items.now ∷ []) k),
     )
 
