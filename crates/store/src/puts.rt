@@ -13,6 +13,14 @@ pub struct Stopped {
     pub fault: StoreFault,
 }
 
+impl From<Stopped> for StoreFault {
+    ghost from_gives = { λ s f. f ≡ s.fault };
+
+    fn from(stopped: Stopped) -> StoreFault {
+        stopped.fault
+    }
+}
+
 impl Put {
     // The address of the chunk.
     pub fn address(self) -> Address
