@@ -5,7 +5,7 @@ ghost use Rattle.node.specs.Items.{child_of, total_below};
 
 use crate::level::put_level;
 use digest::{Address, Digest};
-use node::{Child, Chunk};
+use node::Child;
 use store::{ChunkStore, StoreFault};
 use table::Key;
 
@@ -19,7 +19,6 @@ pub struct Built {
 // Puts the levels from the entries above the leaves up to the root. `spare` has room for the entries of every second level.
 pub(crate) fn put_upper<K: Key, D: Digest, S: ChunkStore<D>>(
     store: &mut S,
-    chunk: &mut Chunk,
     children: Vec<Child<K>>,
     spare: Vec<Child<K>>,
 ) -> Result<Built, StoreFault>
@@ -37,10 +36,7 @@ pub(crate) fn put_upper<K: Key, D: Digest, S: ChunkStore<D>>(
     let mut taken = 0;
     while here.len() > 1 {
         next.clear();
-        match put_level::<K, D, S, Child<K>>(store, chunk, level, here.as_slice(), &mut next) {
-            Ok(count) => taken += count,
-            Err(stopped) => return Err(stopped.fault),
-        }
+        taken += put_level::<K, D, S, Child<K>>(store, level, here.as_slice(), &mut next)?;
         std::mem::swap(&mut here, &mut next);
         level += 1;
     }
