@@ -23,8 +23,8 @@ invariant-loop-rest g l =
       total : total_below (λ c. c.below) (vec_items l.out) + total_below below l.rest ≡ total_below below l.items;
       capacity : vec_capacity l.out ≡ vec_capacity l.initial.out;
       run : sound l.initial.store → sound l.store
-      × (map (child_of code) (vec_items l.out) ≡ take i (level_above code named value d below kind l.level l.items))
-      × AllPut d (m l.initial.store) (take i (level_chunks code named value kind l.level l.items)) l.taken (m l.store);
+          × (map (child_of code) (vec_items l.out) ≡ take i (level_above code named value d below kind l.level l.items))
+          × AllPut d (m l.initial.store) (take i (level_chunks code named value kind l.level l.items)) l.taken (m l.store);
       short : i ≤ length (nodes mark l.items);
     }
 

@@ -19,7 +19,7 @@ loop-next-init g c = (
   c.requires.total,
   omega arith,
   omega arith,
-  (15, refl, c.requires.few, λ s. (s, climb_start g.D.Digest.digests g.K.Key.kind (g.S.ChunkStore.meaning c.args.store.now) (map (child_of g.K.Key.code) (vec_items c.args.children)))),
+  (15, refl, c.requires.few, λ s. (s, climb_start g.D.Digest.digests g.K.Key.kind (g.S.ChunkStore.meaning c.args.store.now) (map (child_of g.K.Key.code) (vec_items c.args.here)))),
 )
 
 pub returns-in_err-taken-clause-does : goal.returns-in_err-taken-clause-does
@@ -36,7 +36,7 @@ returns-in_err-taken-clause-does g c s =
     let inv = c.loop-next.invariant in
     let was = inv.5.3 s in
     let fuel = some_fuel inv.5.0 (vec_len here) two inv.5.2 in
-    let cs₀ = map (child_of code) (vec_items c.args.children) in
+    let cs₀ = map (child_of code) (vec_items c.args.here) in
     let cs = map (child_of code) (vec_items here) in
     let pair : 2 ≤ length cs = rw length-map (omega (arith, ap length is, size, two)) in
     let climb = subst (λ f. Climbing d kind (m c.args.store.now) cs₀ f level cs c.loop-next.taken (m c.loop-next.store)) fuel.1 was.1 in
@@ -84,7 +84,7 @@ loop-next-preserved g c =
         omega (arith, fuel.1, inv.5.1),
         subst (λ n. n ≤ 2 ^ fuel.0) (sym long) (halved mark fuel.0 items (subst (λ k. length items ≤ 2 ^ k) fuel.1 (omega (arith, size, inv.5.2)))),
         λ s.
-            let cs₀ = map (child_of code) (vec_items c.args.children) in
+            let cs₀ = map (child_of code) (vec_items c.args.here) in
             let cs = map (child_of code) (vec_items here) in
             let pair : 2 ≤ length cs = rw length-map (omega (arith, ap length is, size, two)) in
             let climb = subst (λ f. Climbing d kind (m c.args.store.now) cs₀ f level cs c.loop-next.taken (m c.loop-next.store)) fuel.1 (inv.5.3 s).1 in (
