@@ -36,15 +36,10 @@ impl<'a> Cursor<'a> {
         if self.left == 0 {
             return None;
         }
-        let rest = self.rest;
-        match read_item::<K, I>(rest) {
-            Some((item, n)) => {
-                self.rest = &rest[n..];
-                self.left -= 1;
-                Some(item)
-            }
-            None => None,
-        }
+        let (item, rest) = read_item::<K, I>(self.rest)?;
+        self.rest = rest;
+        self.left -= 1;
+        Some(item)
     }
 
     // The next entry of a leaf.
