@@ -45,10 +45,10 @@ pub fn first<K: Key, I: Item<K>>(level: u8, items: &[I]) -> usize
     ensures two { result < length items.now → 2 ≤ result }
     ensures cut { 0 < length items.now → nodes (item_marked K.Key.code I.Item.named level) items.now ≡ take result items.now ∷ nodes (item_marked K.Key.code I.Item.named level) (drop result items.now) }
 {
-    for i in 0..items.len() {
-        let marked = has_mark::<K, I>(level, &items[i]);
-        if closes(i + 1, marked, i + 1 == items.len()) {
-            return i + 1;
+    for (i, item) in items.iter().enumerate() {
+        let held = i + 1;
+        if closes(held, has_mark::<K, I>(level, item), held == items.len()) {
+            return held;
         }
     }
     items.len()
