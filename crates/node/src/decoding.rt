@@ -30,10 +30,7 @@ pub fn read_item<K: Key, I: Item<K>>(s: &[u8]) -> Option<(I, &[u8])>
 fn is_next<K: Key>(last: Option<K>, key: K) -> bool
     ensures { MatchOption last (result ≡ true) (λ k. result ≡ K.Key.before k key) }
 {
-    match last {
-        Some(before) => before.precedes(&key),
-        None => true,
-    }
+    last.is_none_or(|before| before.precedes(&key))
 }
 
 // Whether `body` is so many entries, one behind the other in key order, to the last byte.
