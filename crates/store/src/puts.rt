@@ -6,11 +6,19 @@ use crate::{ChunkStore, Put, StoreFault};
 use digest::{Address, Digest};
 
 // Where a run of puts stopped: how many chunks were accepted before, how many of them were taken, and what the next one met.
-#[derive(Clone, Copy)]
+#[derive(Clone, Copy, Debug, PartialEq, Eq)]
 pub struct Stopped {
     pub accepted: usize,
     pub taken: usize,
     pub fault: StoreFault,
+}
+
+impl From<Stopped> for StoreFault {
+    ghost from_gives = { λ s f. f ≡ s.fault };
+
+    fn from(stopped: Stopped) -> StoreFault {
+        stopped.fault
+    }
 }
 
 impl Put {
