@@ -5,14 +5,14 @@ ghost use Rattle.tree_laws.specs.Boundary.{marked as marked_at, closes as closes
 ghost use Rattle.node.specs.Items.{item_marked};
 
 use crate::item::Item;
-use digest::{fnv1a_32, fnv1a_32_from};
+use digest::{fnv1a, fnv1a_from};
 use table::Key;
 
 // The hash of the level byte and then the encoded key.
 fn hash(level: u8, key: &[u8]) -> u32
     ensures { result ≡ fnv32 (level ∷ key.now) }
 {
-    fnv1a_32_from(fnv1a_32(&[level]), key)
+    fnv1a_from(fnv1a::<u32>(&[level]), key)
 }
 
 // Whether an encoded key is marked at a level.

@@ -139,7 +139,7 @@ impl<K: Key> Item<K> for Child<K> {
     }
 
     fn write_value(&self, chunk: &mut Chunk) {
-        let at = self.at.to_bytes();
+        let at = <[u8; 32]>::from(self.at);
         let below = self.below.to_be_bytes();
         chunk.append(&at);
         chunk.append(&below);
@@ -148,7 +148,7 @@ impl<K: Key> Item<K> for Child<K> {
     fn read_value(key: K, s: &[u8]) -> Option<(Child<K>, &[u8])> {
         let (at, rest) = s.split_first_chunk::<32>()?;
         let (below, rest) = rest.split_first_chunk::<4>()?;
-        let at = Address::from_bytes(*at);
+        let at = Address::from(*at);
         let below = u32::from_be_bytes(*below);
         Some((Child { key, at, below }, rest))
     }

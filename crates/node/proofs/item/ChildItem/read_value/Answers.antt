@@ -18,7 +18,7 @@ returns g c =
     let two = c.in_ok-below.below.now in
     let r = c.in_ok-at.rest.now in
     let t = c.in_ok-below.rest.now in
-    let at = c.from_bytes-at.result in
+    let at = c.from-at.result in
     let below = c.from_be_bytes-below.result in
     let p = c.in_ok-at.ensures.cases in
     let q = c.in_ok-below.ensures.cases in
@@ -28,6 +28,6 @@ returns g c =
     let m : length two ≡ 4 = omega (arith, ap length f, length-append two t, q.2) in
     let small : (i : ℕ) → get_or (one ++ r) i 0 < 256 = λ i. subst (λ w. get_or w i 0 < 256) e (c.type_inv.s i).fits in
     let more : (i : ℕ) → get_or (two ++ t) i 0 < 256 = λ i. subst (λ w. get_or w i 0 < 256) f (fit_right one r small i) in
-    let first : bytes_of at ≡ one = ap bytes_of c.from_bytes-at.ensures ∙ forth one l (fit_left one r small) in
+    let first : bytes_of at ≡ one = ap bytes_of c.from-at.ensures ∙ forth one l (fit_left one r small) in
     let second : four_bytes below ≡ two = four_of two m (fit_left two t more) below c.from_be_bytes-below.ensures in
     (refl, read_link s one two r t at below e f first second)

@@ -10,7 +10,7 @@ returns g c =
     record {
       text =
           wrote_link (written c.args.chunk.now) (written c.append.new.self) (written c.append-2.new.self) at below
-          (c.append.ensures.text ∙ ap (λ w. written c.args.chunk.now ++ w) c.to_bytes-at.ensures)
+          (c.append.ensures.text ∙ ap (λ w. written c.args.chunk.now ++ w) c.from-at.ensures)
           (c.append-2.ensures.text ∙ ap (λ w. written c.append.new.self ++ w) c.to_be_bytes-below.ensures);
-      len = omega (arith, c.append.ensures.len, c.append-2.ensures.len, ap length c.to_bytes-at.ensures, ap length c.to_be_bytes-below.ensures, link_length at below);
+      len = omega (arith, c.append.ensures.len, c.append-2.ensures.len, ap length c.from-at.ensures, ap length c.to_be_bytes-below.ensures, link_length at below);
     }
