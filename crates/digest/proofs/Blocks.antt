@@ -1,8 +1,9 @@
 -- Words from bytes, blocks one after the other, and the padding behind the last.
-use Rattle.std.proofs.Common.{◌≡◌, ℕ, zero, suc, ◌+◌, ◌-◌, ◌*◌, ◌/◌, ◌%◌, ◌^◌, ◌<◌, ◌≤◌, List, [], ◌∷◌, ◌++◌, length, take, drop, set, replicate, sym, refl, ap, ◌∙◌, zero-add, arith}
+use Rattle.std.proofs.Common.{◌≡◌, ℕ, zero, suc, ◌+◌, ◌-◌, ◌*◌, ◌/◌, ◌%◌, ◌^◌, ◌<◌, ◌≤◌, List, [], ◌∷◌, ◌++◌, length, take, drop, set, replicate, get_or, lit<, mul-zero, mul-suc, sym, refl, ap, ◌∙◌, zero-add, arith}
+use Rattle.std.specs.Simd.{first_chunks}
 use borrow.Rule.Slice.PartMut.{put_mid}
 use Rattle.std.proofs.lemmas.Slice.{take-put_mid}
-use Rattle.std.proofs.lemmas.List.{length-replicate, length-append, length-drop, length-set, take_more_set, take_at, drop_all, drop-append-le, take-append-le, append-nil, append_assoc, drop-drop}
+use Rattle.std.proofs.lemmas.List.{length-replicate, length-append, length-drop, length-set, take_more_set, take_at, drop_all, drop-append-le, take-append-le, append-nil, append_assoc, drop-drop, get_or-take}
 use Rattle.digest.specs.declared.sha.functions.Words.{Words}
 use Rattle.digest.specs.Bytes.{word_bytes}
 use Rattle.digest.specs.Sha256.{big_endian, words_of, blocks, compress, initial, bytes_of_words, closing, padded, PaddingFills, sha256}
@@ -13,6 +14,19 @@ words_more zero bs = refl
 words_more (suc n) bs =
     let e : 4 + 4 * n ≡ 4 * suc n = omega arith in
     ap (λ l. big_endian bs ∷ l) (words_more n (drop 4 bs) ∙ ap (λ l. words_of n (drop 4 bs) ++ big_endian l ∷ []) (drop-drop (4 * n) 4 bs ∙ ap (λ k. drop k bs) e))
+
+-- the chunk at i, of the first k of n bytes
+pub chunk_at : (n k : ℕ) (bs : List ℕ) (i : ℕ) (d : List ℕ) → i < k → get_or (first_chunks n k bs) i d ≡ take n (drop (n * i) bs)
+chunk_at n zero bs i d h = absurd (omega arith)
+chunk_at n (suc k) bs zero d h = ap (λ j. take n (drop j bs)) (sym (mul-zero n))
+chunk_at n (suc k) bs (suc i) d h =
+    let e : n + n * i ≡ n * suc i = omega (arith, mul-suc n i) in
+    chunk_at n k (drop n bs) i d (omega arith) ∙ ap (take n) (drop-drop (n * i) n bs ∙ ap (λ j. drop j bs) e)
+
+pub four_of : (bs : List ℕ) → big_endian (take 4 bs) ≡ big_endian bs
+four_of bs =
+    let at : (i : ℕ) → i < 4 → get_or (take 4 bs) i 0 ≡ get_or bs i 0 = λ i h. get_or-take 4 bs i 0 h in
+    rw (at 0 (lit< tt), at 1 (lit< tt), at 2 (lit< tt), at 3 (lit< tt))
 
 pub words_length : (n : ℕ) (bs : List ℕ) → length (words_of n bs) ≡ n
 unfolding words_of

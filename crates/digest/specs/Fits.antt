@@ -3,7 +3,7 @@ use Rattle.std.specs.Prelude.{ℕ, ◌+◌, ◌*◌, ◌/◌, ◌%◌, ◌^◌, 
 use Rattle.std.proofs.Common.{arith}
 use Rattle.digest.specs.declared.sha.functions.Words.{Words}
 use Rattle.digest.specs.Bytes.{of_bytes, Whole}
-use Rattle.digest.specs.Fnv.{fnv_step, fnv64, fnv64_address}
+use Rattle.digest.specs.Fnv.{fnv, fnv_step, fnv64_address}
 use Rattle.digest.specs.Sha256.{initial, blocks, padded, bytes_of_words, sha256, sha256_address}
 
 folds_fit : (factor h : ℕ) (bs : List ℕ) → h < 2 ^ 64 → fold (fnv_step 64 factor) h bs < 2 ^ 64
@@ -14,7 +14,7 @@ folds_fit factor h (b ∷ bs) below =
     folds_fit factor (x % 2 ^ 64) bs l
 
 pub fnv64_whole : (b : List ℕ) → Whole (fnv64_address b)
-unfolding fnv64
+unfolding fnv
 fnv64_whole b = (folds_fit 0x00000100000001b3 0xcbf29ce484222325 b (omega arith), omega arith, omega arith, omega arith)
 
 words_fit : (x y : ℕ) → x / 16777216 % 256 * 72057594037927936 + x / 65536 % 256 * 281474976710656 + x / 256 % 256 * 1099511627776 + x % 256 * 4294967296 + y / 16777216 % 256 * 16777216 + y / 65536 % 256 * 65536 + y / 256 % 256 * 256 + y % 256 < 2 ^ 64

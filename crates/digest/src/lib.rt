@@ -10,7 +10,7 @@ ghost use Rattle.digest.specs.Bytes.{Whole};
 ghost use Rattle.digest.specs.declared.address.Address.{Address};
 
 pub use address::{Address, conversions_undo, equality_is_exact, order_is_bytewise};
-pub use fnv::{Fnv64, fnv1a_32, fnv1a_32_from, fnv1a_64, fnv32_vectors_stand};
+pub use fnv::{Fnv64, FnvWord, fnv1a, fnv1a_from, fnv32_vectors_stand};
 pub use sha::{Sha256, padding_fills};
 
 // A digest, by the function from byte strings to addresses that it computes. Code that needs one has it as a type parameter.

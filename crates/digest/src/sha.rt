@@ -32,9 +32,10 @@ fn start() -> Words
 fn take_blocks(start: Words, bytes: &[u8]) -> Words
     ensures { result ≡ blocks (length bytes.now / 64) bytes.now start }
 {
+    let (whole, _) = bytes.as_chunks::<64>();
     let mut s = start;
-    for i in 0..bytes.len() / 64 {
-        s = take_block(s, &bytes[64 * i..64 * i + 64]);
+    for block in whole {
+        s = take_block(s, block);
     }
     s
 }
@@ -116,7 +117,7 @@ impl Digest for Sha256 {
     ghost digests = { sha256_address };
 
     fn digest(bytes: &[u8]) -> Address {
-        Address::from_bytes(Sha256::message_digest(bytes))
+        Address::from(Sha256::message_digest(bytes))
     }
 }
 

@@ -1,41 +1,42 @@
-ghost use Rattle.std.specs.Prelude.{◌≡◌, ◌-◌, ◌≤◌, length, MatchOption};
+ghost use Rattle.std.specs.Prelude.{◌≡◌, ◌≤◌, length, MatchOption};
 ghost use Rattle.store.specs.Meaning.{OrMemory, put_at, after_put, cost, nothing, chunk};
 ghost use Rattle.memory.specs.Table.{units, empty};
-ghost use Rattle.memory.specs.Of.{table_means};
-ghost use Rattle.index.specs.Chains.{place};
-ghost use Rattle.index.specs.Of.{index_keys};
-ghost use Rattle.memory.specs.Held.{small_held};
+ghost use Rattle.memory.specs.Of.{table_means, table_len};
 
 use crate::MemoryTable;
 use digest::{Address, Digest};
-use index::Index;
 use std::alloc::Global;
-use store::{ChunkStore, Put, RootedStore, StoreFault, same_bytes_of};
+use std::collections::HashMap;
+use store::{ChunkStore, LONGEST, Put, RootedStore, StoreFault};
+
+// A table has at most so many units.
+const MOST_UNITS: usize = 1_048_576;
 
 impl MemoryTable {
     // An empty table with a unit for each whole 512 bytes.
     pub fn new(heap: Global, bytes: usize) -> MemoryTable
         ensures { table_means result ≡ empty (units bytes) }
     {
-        let units = bytes / 512;
-        let free = if units < 1_048_576 { units } else { 1_048_576 };
         MemoryTable {
-            index: Index::new(heap),
-            chunks: Vec::new(heap),
-            free,
+            chunks: HashMap::new(heap),
+            free: (bytes / 512).min(MOST_UNITS),
             root: Address::ZERO,
             heap,
         }
+    }
+
+    // How many chunks there are.
+    pub fn len(&self) -> usize
+        ensures { result ≡ table_len self.now }
+    {
+        self.chunks.len()
     }
 
     // The chunk at an address.
     fn find(&self, address: Address) -> Option<&Vec<u8>>
         ensures { MatchOption result ((table_means self.now).at address ≡ nothing) (λ v. (table_means self.now).at address ≡ chunk v.now.items) }
     {
-        match self.index.find(address) {
-            Some(p) => Some(&self.chunks[p]),
-            None => None,
-        }
+        self.chunks.get(&address)
     }
 
     // One chunk more, at an address that has nothing.
@@ -49,27 +50,10 @@ impl MemoryTable {
         if self.free < cost {
             return Err(StoreFault::NoRoom(address));
         }
-        let Ok(kept) = Vec::from_slice(self.heap, chunk) else {
-            return Err(StoreFault::Memory);
-        };
-        let Ok(_) = self.chunks.reserve(1) else {
-            return Err(StoreFault::Memory);
-        };
-        let Ok(_) = self.index.insert(address) else {
-            return Err(StoreFault::Memory);
-        };
-        self.chunks.push_reserved(kept);
-        self.pay(cost);
+        let kept = Vec::from_slice(self.heap, chunk)?;
+        self.chunks.insert(address, kept)?;
+        self.free -= cost;
         Ok(Put::Taken(address))
-    }
-
-    // So many units less.
-    fn pay(&mut self, units: usize)
-        requires { units ≤ self.old.free }
-        ensures free { self.new.free ≡ self.old.free - units }
-        ensures same { (self.new.index ≡ self.old.index) × (self.new.chunks ≡ self.old.chunks) × (self.new.root ≡ self.old.root) }
-    {
-        self.free -= units;
     }
 }
 
@@ -84,39 +68,30 @@ fn cost_of(n: usize) -> usize
 impl<D: Digest> ChunkStore<D> for MemoryTable {
     ghost meaning = { table_means };
 
-    ghost small = { λ s a c h. small_held (index_keys s.index) s.chunks.items a c (place (index_keys s.index) a) s.small h };
+    ghost small = { λ s. s.small };
 
     ghost few = { λ s. s.few };
 
     fn put(&mut self, chunk: &[u8]) -> Result<Put, StoreFault> {
-        if chunk.len() > 2488 {
+        if chunk.len() > LONGEST {
             return Err(StoreFault::TooLong);
         }
         let address = D::digest(chunk);
         match self.find(address) {
-            Some(old) => {
-                if same_bytes_of(old.as_slice(), chunk) {
-                    Ok(Put::Held(address))
-                } else {
-                    Err(StoreFault::Collision(address))
-                }
-            }
+            Some(kept) if kept.as_slice() == chunk => Ok(Put::Held(address)),
+            Some(_) => Err(StoreFault::Collision(address)),
             None => self.take_in(address, chunk),
         }
     }
 
     fn get(&mut self, address: Address, buffer: &mut [u8]) -> Result<usize, StoreFault> {
-        match self.find(address) {
-            Some(kept) => {
-                let n = kept.len();
-                if buffer.len() < n {
-                    return Err(StoreFault::Short(address));
-                }
-                buffer[0..n].copy_from_slice(kept.as_slice());
-                Ok(n)
-            }
-            None => Err(StoreFault::Absent(address)),
+        let kept = self.find(address).ok_or(StoreFault::Absent(address))?;
+        let n = kept.len();
+        if buffer.len() < n {
+            return Err(StoreFault::Short(address));
         }
+        buffer[..n].copy_from_slice(kept.as_slice());
+        Ok(n)
     }
 
     fn free_units(&self) -> usize {

@@ -1,22 +1,23 @@
 // Nodes as chunks.
 ghost use Rattle.std.specs.Prelude.{◌≡◌, ◌+◌, ◌<◌, ◌≤◌, ◌++◌, length, MatchOption};
+ghost use Rattle.arrayvec.specs.ArrayVec.{array_vec_len};
 ghost use Rattle.node.specs.Chunks.{written};
 ghost use Rattle.node.specs.Items.{item_bytes, item_chunk};
 
-use crate::chunk::Chunk;
+use crate::chunk::{Chunk, append};
 use crate::item::Item;
 use table::Key;
 
 // Writes an entry behind what was written.
 fn write_item<K: Key, I: Item<K>>(chunk: &mut Chunk, item: &I)
-    requires { chunk.old.len + 74 ≤ 2488 }
+    requires { array_vec_len chunk.old + 74 ≤ 2488 }
     ensures text { written chunk.new ≡ written chunk.old ++ item_bytes K.Key.code I.Item.named I.Item.value item.now }
-    ensures len { chunk.new.len ≤ chunk.old.len + 74 }
+    ensures len { array_vec_len chunk.new ≤ array_vec_len chunk.old + 74 }
 {
     let code = item.key().encode();
     let key = code.as_slice();
     chunk.push(key.len() as u8);
-    chunk.append(key);
+    append(chunk, key);
     item.write_value(chunk);
 }
 

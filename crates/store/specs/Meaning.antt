@@ -1,5 +1,6 @@
 -- What a chunk store means, and what its calls do to that.
-use Rattle.std.specs.Prelude.{◌≡◌, ℕ, ◌+◌, ◌-◌, ◌/◌, ◌≤◌, Bool, true, false, cond, ◌&&◌, ◌⊎◌, List, [], ◌∷◌, ◌++◌, length, drop, is_ok, Ok, Err, Result, ◌==◌, nat_lt}
+use Rattle.std.specs.Prelude.{◌≡◌, ℕ, ◌+◌, ◌-◌, ◌/◌, ◌≤◌, Bool, true, false, cond, ◌&&◌, ◌⊎◌, List, [], ◌∷◌, ◌++◌, length, drop, is_ok, Ok, Err, Result, ◌==◌, nat_lt, nat_eq}
+use Rattle.std.specs.Cmp.Lexicographic.{pointwise}
 use Rattle.digest.specs.declared.address.Address.{Address}
 use Rattle.digest.specs.Bytes.{same_address}
 use Rattle.store.specs.Faults.{zero_address}
@@ -32,11 +33,9 @@ most_units = 1048576
 abbrev pub cost : ℕ → ℕ
 cost n = (32 + n + 503) / 504
 
+-- whether two strings are as long as one another and have the same bytes, as `==` of slices says it
 abbrev pub same_bytes : List ℕ → List ℕ → Bool
-same_bytes [] [] = true
-same_bytes [] (y ∷ ys) = false
-same_bytes (x ∷ xs) [] = false
-same_bytes (x ∷ xs) (y ∷ ys) = x == y && same_bytes xs ys
+same_bytes xs ys = pointwise nat_eq xs ys
 
 -- the meaning with a chunk more at a, and n units less
 abbrev pub added : Meaning → Address → List ℕ → ℕ → Meaning

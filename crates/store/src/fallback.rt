@@ -3,8 +3,7 @@ ghost use Rattle.std.specs.Prelude.{◌≡◌, length};
 ghost use Rattle.store.specs.Meaning.{fallen, get_answer, get_buffer, Within};
 ghost use Rattle.std.proofs.Common.{rules};
 
-use crate::bytes::same_bytes_of;
-use crate::{ChunkStore, Put, RootedStore, StoreFault};
+use crate::{ChunkStore, LONGEST, Put, RootedStore, StoreFault};
 use digest::{Address, Digest};
 
 // A rooted front and any chunk store as back.
@@ -29,18 +28,13 @@ fn look<D: Digest, F: ChunkStore<D>, B: ChunkStore<D>>(
     ensures back_same { B.ChunkStore.sound back.old → B.ChunkStore.meaning back.new ≡ B.ChunkStore.meaning back.old }
 {
     match front.get(address, buffer) {
-        Ok(n) => Ok(n),
-        Err(e) => match e {
-            StoreFault::Absent(_) => back.get(address, buffer),
-            StoreFault::Bad(_) => match back.get(address, buffer) {
-                Ok(n) => Ok(n),
-                Err(f) => match f {
-                    StoreFault::Short(a) => Err(StoreFault::Short(a)),
-                    _ => Err(StoreFault::Bad(address)),
-                },
-            },
-            other => Err(other),
+        Err(StoreFault::Absent(_)) => back.get(address, buffer),
+        Err(StoreFault::Bad(_)) => match back.get(address, buffer) {
+            Err(StoreFault::Short(a)) => Err(StoreFault::Short(a)),
+            Err(_) => Err(StoreFault::Bad(address)),
+            read => read,
         },
+        answer => answer,
     }
 }
 
@@ -54,23 +48,16 @@ impl<D: Digest, F: RootedStore<D>, B: ChunkStore<D>> ChunkStore<D> for Fallback<
     ghost few = { Prim.search rules };
 
     fn put(&mut self, chunk: &[u8]) -> Result<Put, StoreFault> {
-        if chunk.len() > 2488 {
+        if chunk.len() > LONGEST {
             return Err(StoreFault::TooLong);
         }
         let address = D::digest(chunk);
-        let mut kept = [0u8; 2488];
+        let mut kept = [0; LONGEST];
         match look::<D, F, B>(&mut self.front, &mut self.back, address, &mut kept) {
-            Ok(n) => {
-                if same_bytes_of(&kept[0..n], chunk) {
-                    Ok(Put::Held(address))
-                } else {
-                    Err(StoreFault::Collision(address))
-                }
-            }
-            Err(e) => match e {
-                StoreFault::Absent(_) => self.front.put(chunk),
-                other => Err(other),
-            },
+            Ok(n) if &kept[..n] == chunk => Ok(Put::Held(address)),
+            Ok(_) => Err(StoreFault::Collision(address)),
+            Err(StoreFault::Absent(_)) => self.front.put(chunk),
+            Err(other) => Err(other),
         }
     }
 

@@ -1,19 +1,22 @@
 // What a store answers to an accepted put, and what it refuses.
 ghost use Rattle.std.specs.Prelude.{◌≡◌};
 ghost use Rattle.store.specs.Faults.{number_of, address_of, path_of};
+ghost use Rattle.store.specs.declared.fault.StoreFault.TheVariants.{Memory as unfound};
 
 use digest::Address;
+use std::alloc::{AllocError, AllocFailed};
+use std::error::Error;
 use std::fmt;
 
 // What a store answers to an accepted put: the chunk was there, or it was added.
-#[derive(Clone, Copy, Debug)]
+#[derive(Clone, Copy, Debug, PartialEq, Eq)]
 pub enum Put {
     Held(Address),
     Taken(Address),
 }
 
 // The parts that a fault can start at and pass on its way up.
-#[derive(Clone, Copy, Debug)]
+#[derive(Clone, Copy, Debug, PartialEq, Eq)]
 pub enum Part {
     Store,
     Tree,
@@ -23,17 +26,17 @@ pub enum Part {
 
 impl fmt::Display for Part {
     fn fmt<W: fmt::Write>(&self, f: &mut fmt::Formatter<W>) -> fmt::Result {
-        match self {
-            Part::Store => f.write_str("store"),
-            Part::Tree => f.write_str("tree"),
-            Part::History => f.write_str("history"),
-            Part::Repository => f.write_str("repository"),
-        }
+        f.write_str(match self {
+            Part::Store => "store",
+            Part::Tree => "tree",
+            Part::History => "history",
+            Part::Repository => "repository",
+        })
     }
 }
 
 // What a store refuses. Where a chunk is concerned, the fault has its address.
-#[derive(Clone, Copy, Debug)]
+#[derive(Clone, Copy, Debug, PartialEq, Eq)]
 pub enum StoreFault {
     TooLong,
     Collision(Address),
@@ -83,3 +86,34 @@ impl StoreFault {
         &[Part::Store]
     }
 }
+
+impl From<AllocError> for StoreFault {
+    ghost from_gives = { λ _ f. f ≡ unfound };
+
+    fn from(_: AllocError) -> StoreFault {
+        StoreFault::Memory
+    }
+}
+
+impl<T: Drop> From<AllocFailed<T>> for StoreFault {
+    ghost from_gives = { λ _ f. f ≡ unfound };
+
+    fn from(_: AllocFailed<T>) -> StoreFault {
+        StoreFault::Memory
+    }
+}
+
+// The number, the address and the parts, with a blank between.
+impl fmt::Display for StoreFault {
+    fn fmt<W: fmt::Write>(&self, f: &mut fmt::Formatter<W>) -> fmt::Result {
+        let number = self.number();
+        let address = self.address();
+        write!(f, "{number} {address}")?;
+        for part in self.path() {
+            write!(f, " {part}")?;
+        }
+        Ok(())
+    }
+}
+
+impl Error for StoreFault {}

@@ -1,7 +1,6 @@
 // Chunk stores: what a store means to its callers, the calls that keep to it, and layers over any store.
 #![tactic(auto)]
 
-mod bytes;
 mod fallback;
 mod fault;
 mod laws;
@@ -12,13 +11,15 @@ ghost use Rattle.std.specs.Prelude.{◌≡◌, ℕ, ◌≤◌, List, length};
 ghost use Rattle.digest.specs.declared.address.Address.{Address};
 ghost use Rattle.store.specs.Meaning.{Meaning, chunk, longest, most_units, put_answer, after_put, OrMemory, get_answer, get_buffer, Within, set_answer, after_set};
 
-pub use bytes::same_bytes_of;
 use digest::{Address, Digest};
 pub use fallback::Fallback;
 pub use fault::{Part, Put, StoreFault};
 pub use laws::{costs_stand, puts_are_lawful};
 pub use puts::{Stopped, put_all};
 pub use verifying::Verifying;
+
+// A chunk has at most so many bytes.
+pub const LONGEST: usize = 2488;
 
 // A chunk store for the digest D, by its meaning.
 pub trait ChunkStore<D: Digest> {

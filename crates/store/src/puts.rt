@@ -6,7 +6,7 @@ use crate::{ChunkStore, Put, StoreFault};
 use digest::{Address, Digest};
 
 // Where a run of puts stopped: how many chunks were accepted before, how many of them were taken, and what the next one met.
-#[derive(Clone, Copy)]
+#[derive(Clone, Copy, Debug, PartialEq, Eq)]
 pub struct Stopped {
     pub accepted: usize,
     pub taken: usize,

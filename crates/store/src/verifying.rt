@@ -4,7 +4,7 @@ ghost use Rattle.digest.specs.Bytes.{same_address};
 ghost use Rattle.store.specs.Meaning.{checked};
 ghost use Rattle.std.proofs.Common.{rules};
 
-use crate::{ChunkStore, Put, RootedStore, StoreFault};
+use crate::{ChunkStore, LONGEST, Put, RootedStore, StoreFault};
 use digest::{Address, Digest};
 
 // The store below, except that a chunk whose digest is not its address is bad.
@@ -32,37 +32,30 @@ impl<D: Digest, S: ChunkStore<D>> ChunkStore<D> for Verifying<S> {
     // A collision with a chunk that does not verify is a bad chunk.
     fn put(&mut self, chunk: &[u8]) -> Result<Put, StoreFault> {
         match self.inner.put(chunk) {
-            Ok(p) => Ok(p),
-            Err(e) => match e {
-                StoreFault::Collision(a) => {
-                    let mut kept = [0u8; 2488];
-                    match self.inner.get(a, &mut kept) {
-                        Ok(n) => {
-                            if verifies::<D>(&kept[0..n], a) {
-                                Err(StoreFault::Collision(a))
-                            } else {
-                                Err(StoreFault::Bad(a))
-                            }
-                        }
-                        Err(f) => Err(f),
-                    }
+            Err(StoreFault::Collision(address)) => {
+                let mut kept = [0; LONGEST];
+                let n = self.inner.get(address, &mut kept)?;
+                if verifies::<D>(&kept[..n], address) {
+                    Err(StoreFault::Collision(address))
+                } else {
+                    Err(StoreFault::Bad(address))
                 }
-                other => Err(other),
-            },
+            }
+            answer => answer,
         }
     }
 
     // The chunk goes through a buffer of the layer's own, so that a bad one leaves the caller's as it was.
     fn get(&mut self, address: Address, buffer: &mut [u8]) -> Result<usize, StoreFault> {
-        let mut kept = [0u8; 2488];
+        let mut kept = [0; LONGEST];
         let n = self.inner.get(address, &mut kept)?;
-        if !verifies::<D>(&kept[0..n], address) {
+        if !verifies::<D>(&kept[..n], address) {
             return Err(StoreFault::Bad(address));
         }
         if buffer.len() < n {
             return Err(StoreFault::Short(address));
         }
-        buffer[0..n].copy_from_slice(&kept[0..n]);
+        buffer[..n].copy_from_slice(&kept[..n]);
         Ok(n)
     }
 

@@ -29,6 +29,8 @@ fn majority(x: u32, y: u32, z: u32) -> u32
     ((x ^ y) & (y ^ z)) ^ y
 }
 
+// The standard's four functions of rotations, each with its own name and formula beside it: constants that a caller passes would
+// hide which is which.
 fn big_sigma0(x: u32) -> u32
     ensures { result ≡ Σ0 x }
 {

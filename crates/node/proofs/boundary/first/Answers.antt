@@ -18,7 +18,7 @@ returns-then-closes g c =
     let i = c.loop-i.i in
     let lt : i < length items = omega arith in
     let test : closes (i + 1) (mark c.index-items-i.result) (eqb (i + 1) (length items)) ≡ true =
-    ap (λ m. closes (i + 1) m (eqb (i + 1) (length items))) (sym c.has_mark-marked.ensures) ∙ sym c.if-closes.ensures
+    ap (λ m. closes (i + 1) m (eqb (i + 1) (length items))) (sym c.has_mark.ensures) ∙ sym c.if-closes.ensures
     in
     record {
       some = λ h. omega arith;
@@ -38,7 +38,7 @@ loop-i-preserved g c =
     let i = c.loop-i.i in
     let lt : i < length items = omega arith in
     let test : closes (i + 1) (mark c.index-items-i.result) (eqb (i + 1) (length items)) ≡ false =
-    ap (λ m. closes (i + 1) m (eqb (i + 1) (length items))) (sym c.has_mark-marked.ensures) ∙ sym c.if-closes.ensures
+    ap (λ m. closes (i + 1) m (eqb (i + 1) (length items))) (sym c.has_mark.ensures) ∙ sym c.if-closes.ensures
     in
     let few = open_few (i + 1) (mark c.index-items-i.result) (or_parts (full (i + 1) (mark c.index-items-i.result)) (eqb (i + 1) (length items)) test).0 in
     (sought_more mark items i c.index-items-i.result lt c.index-items-i.is c.loop-i.invariant.0 test, omega (arith, few, c.loop-i.invariant.1))

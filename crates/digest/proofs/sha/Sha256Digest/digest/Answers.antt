@@ -5,4 +5,4 @@ use Rattle.digest.proofs.sha.Sha256Digest.digest.Goals as goal
 
 pub returns : goal.returns
 unfolding sha256_address
-returns c = c.from_bytes.ensures ∙ ap of_bytes c.message_digest.ensures
+returns c = c.from.ensures ∙ ap of_bytes c.message_digest.ensures
