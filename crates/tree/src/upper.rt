@@ -10,7 +10,7 @@ use store::{ChunkStore, StoreFault};
 use table::Key;
 
 // A tree that was put: its root address, and how many chunks the store took, those that it held already not counted.
-#[derive(Clone, Copy)]
+#[derive(Clone, Copy, Debug, PartialEq, Eq)]
 pub struct Built {
     pub root: Address,
     pub taken: usize,
