@@ -28,10 +28,13 @@ fn consecutive(heap: Global, from: i64, count: u32) -> Result<Vec<Entry<IntKey>>
     Ok(entries)
 }
 
+fn has_mark(key: i64) -> bool {
+    is_marked(0, IntKey::new(key).encode().as_slice())
+}
+
 // A table of a hundred keys that are marked at level 0, or of a hundred that are not.
 fn chosen(heap: Global, marks: bool) -> Result<Vec<Entry<IntKey>>, Fail> {
-    let keys = (0..2_000).filter(|key| is_marked(0, IntKey::new(*key).encode().as_slice())
-        == marks);
+    let keys = (0..2_000).filter(|key| has_mark(*key) == marks);
     let mut entries = Vec::new(heap);
     for (key, place) in keys.zip(0..100) {
         entries.push(entry(key, place)?)?;
