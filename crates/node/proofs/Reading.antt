@@ -28,13 +28,9 @@ module _ {K I : Type 0} (code : K → List ℕ) (named : I → K) (value : I →
       let h = same_sized (code (named x)) (code (named y)) (value x ++ s) (value y ++ t) (sym (item_parts x s) ∙ (e ∙ item_parts y t)) in
       values x y s t (keys (named x) (named y) h.0) h.1
 
-  -- an entry is cut behind its key
-  pub item_cut : (s : List ℕ) (x : I) (t : List ℕ) → s ≡ item_bytes code named value x ++ t → s ≡ sized (code (named x)) ++ (value x ++ t)
-  item_cut s x t e = e ∙ item_parts x t
-
   -- what stands behind a key that was read is what stands behind the entry's
   pub item_behind : (s a r : List ℕ) (x : I) (t : List ℕ) → s ≡ sized a ++ r → s ≡ item_bytes code named value x ++ t → (a ≡ code (named x)) × (r ≡ value x ++ t)
-  item_behind s a r x t h e = same_sized a (code (named x)) r (value x ++ t) (sym h ∙ item_cut s x t e)
+  item_behind s a r x t h e = same_sized a (code (named x)) r (value x ++ t) (sym h ∙ (e ∙ item_parts x t))
 
   -- a key and then what stands behind it
   pub item_read : (s a r : List ℕ) (x : I) (t : List ℕ) → s ≡ sized a ++ r → code (named x) ≡ a → r ≡ value x ++ t → s ≡ item_bytes code named value x ++ t
@@ -91,9 +87,6 @@ module _ {K I : Type 0} (code : K → List ℕ) (before : K → K → Bool) (nam
   -- a key may stand behind the last
   abbrev pub MayFollow : Option K → K → Bool → Type 0
   MayFollow last key r = MatchOption last (r ≡ true) (λ k. r ≡ before k key)
-
-  pub none_yet : (body : List ℕ) → SoFar bytes before named body body 0 None
-  none_yet body = record { items = []; many = refl; rising = tt; text = refl; ends = refl }
 
   module _ (body rest : List ℕ) (i : ℕ) (last : Option K) (h : SoFar bytes before named body rest i last) where
     grown : (x : I) → (o : Option K) → Ends named o h.items → MayFollow o (named x) true → Rising lt (h.items ++ x ∷ [])

@@ -9,6 +9,7 @@ use digest::{fnv1a, fnv1a_from};
 use table::Key;
 
 // The hash of the level byte and then the encoded key.
+#[tactic(auto, unfolding(digest::specs::Fnv::fnv))]
 fn hash(level: u8, key: &[u8]) -> u32
     ensures { result ≡ fnv32 (level ∷ key.now) }
 {

@@ -2,11 +2,8 @@ use Rattle.std.proofs.Common.{◌≡◌, ℕ, sym, ◌∙◌, ap, length, subst,
 use Rattle.std.proofs.lemmas.Bool.{eqb-true, eq-eqb}
 use Rattle.std.proofs.lemmas.List.{nil_from_length}
 use Rattle.node.specs.Nodes.{Listed}
-use Rattle.node.proofs.Reading.{none_yet, one_more, all_read, unread, unordered, to_the_end, item_apart}
+use Rattle.node.proofs.Reading.{one_more, all_read, unread, unordered, to_the_end, item_apart}
 use Rattle.node.proofs.decoding.is_list.Goals as goal
-
-pub loop-init : goal.loop-init
-loop-init g c = none_yet g.K.Key.code g.K.Key.before g.I.Item.named g.I.Item.value c.args.body.now
 
 pub returns-in_default : goal.returns-in_default
 returns-in_default g c =
