@@ -1,4 +1,2 @@
-pub mod SizedText
 pub mod Rises
 pub mod Reading
-pub mod Heads

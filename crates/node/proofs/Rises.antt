@@ -1,6 +1,6 @@
 -- Lists in which each comes before the next.
-use Rattle.std.proofs.Common.{◌≡◌, ℕ, zero, suc, ◌+◌, ◌-◌, ◌<◌, ◌≤◌, Bool, true, List, [], ◌∷◌, ◌++◌, length, get_or, take, drop, sym, ap, ◌∙◌, subst, arith}
-use Rattle.std.proofs.lemmas.List.{take_more, drop_more}
+use Rattle.std.proofs.Common.{◌≡◌, ℕ, zero, suc, ◌+◌, ◌<◌, Bool, true, false, List, [], ◌∷◌, ◌++◌, length, get_or, sym, refl, ◌∙◌, subst, arith}
+use Rattle.std.specs.List.{AllAdjacentBelow, IsAllAdjacentAnswer}
 use Rattle.table.specs.Table.{Rising}
 
 module _ {X : Type 0} (lt : X → X → Bool) where
@@ -13,31 +13,25 @@ module _ {X : Type 0} (lt : X → X → Bool) where
   rising_tail x [] h = tt
   rising_tail x (y ∷ ys) h = h.1
 
-  pub rising_drop : (k : ℕ) (xs : List X) → Rising lt xs → Rising lt (drop k xs)
-  rising_drop zero xs h = h
-  rising_drop (suc k) [] h = h
-  rising_drop (suc k) (x ∷ xs) h = rising_drop k xs (rising_tail x xs h)
+  -- each comes before the next, place by place
+  rising_places : (xs : List X) → AllAdjacentBelow (λ x y. true ≡ lt x y) xs (length xs) → Rising lt xs
+  rising_places [] h = tt
+  rising_places (x ∷ []) h = tt
+  rising_places (x ∷ y ∷ ys) h = (sym (h 0 x (omega arith)), rising_places (y ∷ ys) (λ k d l. subst (λ n. true ≡ lt (get_or (y ∷ ys) k d) (get_or (x ∷ y ∷ ys) n d)) (next k) (h (suc k) d (omega (arith, l)))))
+    where
+      next : (k : ℕ) → suc k + 1 ≡ suc (k + 1)
+      next k = omega arith
 
-  module _ (xs : List X) (i : ℕ) (u v : X) (at : 1 ≤ i) (below : i < length xs) (is-u : u ≡ get_or xs (i - 1) u) (is-v : v ≡ get_or xs i v) where
-    -- one more
-    pub rising_more : Rising lt (take i xs) → lt u v ≡ true → Rising lt (take (i + 1) xs)
-    rising_more h e =
-        let k : i - 1 + 1 ≡ i = omega arith in
-        let p : take i xs ≡ take (i - 1) xs ++ u ∷ [] = ap (λ n. take n xs) (sym k) ∙ (take_more xs (i - 1) u (omega arith) ∙ ap (λ w. take (i - 1) xs ++ w ∷ []) (sym is-u)) in
-        let q : take (i + 1) xs ≡ (take (i - 1) xs ++ u ∷ []) ++ v ∷ [] = take_more xs i v below ∙ (ap (λ w. take i xs ++ w ∷ []) (sym is-v) ∙ ap (λ w. w ++ v ∷ []) p) in
-        subst (Rising lt) (sym q) (rising_push (take (i - 1) xs) u v (subst (Rising lt) p h) e)
+  rising_pair : (xs : List X) (k : ℕ) (d : X) → k + 1 < length xs → Rising lt xs → lt (get_or xs k d) (get_or xs (k + 1) d) ≡ true
+  rising_pair [] k d l h = absurd (omega (arith, l))
+  rising_pair (x ∷ []) k d l h = absurd (omega (arith, l))
+  rising_pair (x ∷ y ∷ ys) zero d l h = h.0
+  rising_pair (x ∷ y ∷ ys) (suc k) d l h =
+      let next : suc (k + 1) ≡ suc k + 1 = omega arith in
+      subst (λ n. lt (get_or (y ∷ ys) k d) (get_or (x ∷ y ∷ ys) n d) ≡ true) next (rising_pair (y ∷ ys) k d (omega (arith, l)) h.1)
 
-    -- two neighbours in a rising list
-    pub rising_at : Rising lt xs → lt u v ≡ true
-    rising_at h =
-        let k : i - 1 + 1 ≡ i = omega arith in
-        let p : drop (i - 1) xs ≡ u ∷ drop i xs = drop_more xs (i - 1) u (omega arith) ∙ (ap (λ w. w ∷ drop (i - 1 + 1) xs) (sym is-u) ∙ ap (λ n. u ∷ drop n xs) k) in
-        let q : drop i xs ≡ v ∷ drop (i + 1) xs = drop_more xs i v below ∙ ap (λ w. w ∷ drop (i + 1) xs) (sym is-v) in
-        (subst (Rising lt) (p ∙ ap (λ w. u ∷ w) q) (rising_drop (i - 1) xs h)).0
-
-  -- a list of at most one
-  pub rising_one : (xs : List X) (i : ℕ) → i ≤ 1 → Rising lt (take i xs)
-  rising_one xs zero h = tt
-  rising_one [] (suc zero) h = tt
-  rising_one (x ∷ xs) (suc zero) h = tt
-  rising_one xs (suc (suc i)) h = absurd (omega arith)
+  -- the answer of a test of all neighbours
+  pub is_rising : (xs : List X) (r : Bool) → IsAllAdjacentAnswer (λ x y b. b ≡ lt x y) xs r → (r ≡ true → Rising lt xs) × (Rising lt xs → r ≡ true)
+  is_rising xs true a = ((λ _. rising_places xs a), (λ _. refl))
+  is_rising [] false a = absurd (omega (arith, a.1))
+  is_rising (x ∷ xs) false a = ((λ z. absurd (cc)), (λ h. a.2 x ∙ rising_pair (x ∷ xs) a.0 x a.1 h))

@@ -1,6 +1,6 @@
 -- The bytes of a child behind its key.
 use Rattle.std.specs.Prelude.{◌≡◌, ℕ, zero, suc, ◌+◌, ◌*◌, ◌/◌, ◌%◌, ◌^◌, ◌<◌, List, [], ◌∷◌, ◌++◌, length, take, drop, ◌≢◌, slice_index, slice_index_or, refl}
-use Rattle.std.proofs.Common.{arith, sym, ap, ◌∙◌}
+use Rattle.std.proofs.Common.{arith, sym, ap, ap₂, ◌∙◌}
 use Rattle.std.proofs.Math.Bridge.{le_prop}
 use Rattle.std.proofs.lemmas.List.{length-append, append_assoc, take-append-drop, ext_get_or}
 use Rattle.digest.specs.declared.address.Address.{Address}
@@ -25,14 +25,24 @@ pub wrote_link : (was one two : List ℕ) (a : Address) (n : ℕ) → one ≡ wa
 unfolding link_bytes
 wrote_link was one two a n p q = q ∙ (ap (λ w. w ++ four_bytes n) p ∙ append_assoc was (bytes_of a) (four_bytes n))
 
--- 36 bytes are an address and a number
-pub read_link : (s : List ℕ) (a : Address) (n : ℕ) → bytes_of a ≡ take 32 s → four_bytes n ≡ take 4 (drop 32 s) → drop 4 (drop 32 s) ≡ drop 36 s → s ≡ link_bytes a n ++ drop 36 s
+-- the bytes of an address and then those of a number
+pub read_link : (s one two r t : List ℕ) (a : Address) (n : ℕ) → s ≡ one ++ r → r ≡ two ++ t → bytes_of a ≡ one → four_bytes n ≡ two → s ≡ link_bytes a n ++ t
 unfolding link_bytes
-read_link s a n p q r =
-    sym (take-append-drop 32 s) ∙ (ap (λ w. take 32 s ++ w) (sym (take-append-drop 4 (drop 32 s))) ∙
-    (ap (λ w. take 32 s ++ (take 4 (drop 32 s) ++ w)) r ∙
-    (ap (λ w. w ++ (take 4 (drop 32 s) ++ drop 36 s)) (sym p) ∙
-    (ap (λ w. bytes_of a ++ (w ++ drop 36 s)) (sym q) ∙ sym (append_assoc (bytes_of a) (four_bytes n) (drop 36 s))))))
+read_link s one two r t a n p q e f = p ∙ (ap₂ ◌++◌ (sym e) (q ∙ ap (λ w. w ++ t) (sym f)) ∙ sym (append_assoc (bytes_of a) (four_bytes n) t))
+
+-- a list that was split is its two parts
+pub split_parts : (n : ℕ) (s a r : List ℕ) → a ≡ take n s → r ≡ drop n s → s ≡ a ++ r
+split_parts n s a r p q = sym (take-append-drop n s) ∙ ap₂ ◌++◌ (sym p) (sym q)
+
+-- what are bytes are bytes in each part
+pub fit_left : (a r : List ℕ) → ((i : ℕ) → slice_index (a ++ r) i < 256) → (i : ℕ) → slice_index a i < 256
+fit_left [] r h i = omega arith
+fit_left (x ∷ a) r h zero = h zero
+fit_left (x ∷ a) r h (suc i) = fit_left a r (λ j. h (suc j)) i
+
+pub fit_right : (a r : List ℕ) → ((i : ℕ) → slice_index (a ++ r) i < 256) → (i : ℕ) → slice_index r i < 256
+fit_right [] r h i = h i
+fit_right (x ∷ a) r h i = fit_right a r (λ j. h (suc j)) i
 
 -- four bytes are those of their number
 pub four_of : (s : List ℕ) → length s ≡ 4 → ((i : ℕ) → slice_index s i < 256) → (n : ℕ) → n ≡ slice_index s 0 * 16777216 + slice_index s 1 * 65536 + slice_index s 2 * 256 + slice_index s 3 → four_bytes n ≡ s

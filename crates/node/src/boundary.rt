@@ -5,14 +5,15 @@ ghost use Rattle.tree_laws.specs.Boundary.{marked as marked_at, closes as closes
 ghost use Rattle.node.specs.Items.{item_marked};
 
 use crate::item::Item;
-use digest::{fnv1a_32, fnv1a_32_from};
+use digest::{fnv1a, fnv1a_from};
 use table::Key;
 
 // The hash of the level byte and then the encoded key.
+#[tactic(auto, unfolding(digest::specs::Fnv::fnv))]
 fn hash(level: u8, key: &[u8]) -> u32
     ensures { result ≡ fnv32 (level ∷ key.now) }
 {
-    fnv1a_32_from(fnv1a_32(&[level]), key)
+    fnv1a_from(fnv1a::<u32>(&[level]), key)
 }
 
 // Whether an encoded key is marked at a level.
@@ -45,10 +46,10 @@ pub fn first<K: Key, I: Item<K>>(level: u8, items: &[I]) -> usize
     ensures two { result < length items.now → 2 ≤ result }
     ensures cut { 0 < length items.now → nodes (item_marked K.Key.code I.Item.named level) items.now ≡ take result items.now ∷ nodes (item_marked K.Key.code I.Item.named level) (drop result items.now) }
 {
-    for i in 0..items.len() {
-        let marked = has_mark::<K, I>(level, &items[i]);
-        if closes(i + 1, marked, i + 1 == items.len()) {
-            return i + 1;
+    for (i, item) in items.iter().enumerate() {
+        let held = i + 1;
+        if closes(held, has_mark::<K, I>(level, item), held == items.len()) {
+            return held;
         }
     }
     items.len()

@@ -5,6 +5,7 @@ use digest::Address;
 use std::alloc::AllocError;
 
 // An entry of a higher node: the greatest key below, the address of the child's chunk, and the number of table entries below.
+#[derive(Copy)]
 pub struct Child<K> {
     pub key: K,
     pub at: Address,
@@ -13,8 +14,7 @@ pub struct Child<K> {
     ghost fits: { below < 2 ^ 32 },
 }
 
-impl<K: Copy> Copy for Child<K> {}
-
+// By hand: no derive writes it for a struct with ghost fields.
 impl<K: Copy> Clone for Child<K> {
     ghost is_clone = { λ x y. y ≡ x };
 

@@ -1,10 +1,17 @@
-ghost use Rattle.std.specs.Prelude.{◌≡◌, ◌≤◌, length};
+// Chunks as they are written.
+ghost use Rattle.std.specs.Prelude.{◌≡◌, ◌+◌, ◌≤◌, ◌++◌, length};
+ghost use Rattle.arrayvec.specs.ArrayVec.{array_vec_len};
+ghost use Rattle.node.specs.Chunks.{written};
 
-// The bytes of a chunk, as they are written one behind the other. No chunk is longer.
-#[derive(Clone, Copy)]
-pub struct Chunk {
-    pub(crate) bytes: [u8; 2488],
-    pub(crate) len: usize,
-    ghost whole: { length bytes ≡ 2488 },
-    ghost short: { len ≤ 2488 },
+use arrayvec::ArrayVec;
+
+// The bytes of a chunk, written one behind the other in a place of fixed size. No chunk is longer.
+pub type Chunk = ArrayVec<u8, 2488>;
+
+// Writes these bytes behind what was written.
+pub(crate) fn append(chunk: &mut Chunk, s: &[u8])
+    requires { array_vec_len chunk.old + length s.now ≤ 2488 }
+    ensures { written chunk.new ≡ written chunk.old ++ s.now }
+{
+    chunk.try_extend_from_slice(s).unwrap()
 }

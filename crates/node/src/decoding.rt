@@ -17,60 +17,41 @@ pub struct Node<'a> {
     pub body: &'a [u8],
 }
 
-// The entry at the start of `s`, and the number of its bytes.
-pub fn read_item<K: Key, I: Item<K>>(s: &[u8]) -> Option<(I, usize)>
-    ensures { MatchOption result ((x : I) (t : List ℕ) → s.now ≢ item_bytes K.Key.code I.Item.named I.Item.value x ++ t) (λ p. (p.1 ≡ length (item_bytes K.Key.code I.Item.named I.Item.value p.0)) × (s.now ≡ item_bytes K.Key.code I.Item.named I.Item.value p.0 ++ drop p.1 s.now)) }
+// The entry at the start of `s`, and the rest of `s`.
+pub fn read_item<K: Key, I: Item<K>>(s: &[u8]) -> Option<(I, &[u8])>
+    ensures { MatchOption result ((x : I) (t : List ℕ) → s.now ≢ item_bytes K.Key.code I.Item.named I.Item.value x ++ t) (λ p. s.now ≡ item_bytes K.Key.code I.Item.named I.Item.value p.0 ++ p.1.now) }
 {
-    let Some(code) = read_sized(s) else {
-        return None;
-    };
-    let Some(key) = K::decode(code) else {
-        return None;
-    };
-    let at = 1 + code.len();
-    match I::read_value(key, &s[at..]) {
-        Some((item, n)) => Some((item, at + n)),
-        None => None,
-    }
+    let (code, behind) = read_sized(s)?;
+    let key = K::decode(code)?;
+    I::read_value(key, behind)
 }
 
 // Whether a key may stand behind the one before, if there is one.
 fn is_next<K: Key>(last: Option<K>, key: K) -> bool
     ensures { MatchOption last (result ≡ true) (λ k. result ≡ K.Key.before k key) }
 {
-    match last {
-        Some(before) => before.precedes(&key),
-        None => true,
-    }
-}
-
-// Whether a place is the end, so that no byte is left.
-fn is_end(at: usize, body: &[u8]) -> bool
-    ensures { Decides result (at ≡ length body.now) }
-{
-    at == body.len()
+    last.is_none_or(|before| before.precedes(&key))
 }
 
 // Whether `body` is so many entries, one behind the other in key order, to the last byte.
 fn is_list<K: Key, I: Item<K>>(count: usize, body: &[u8]) -> bool
     ensures { Decides result ((xs : List I) × Listed K.Key.code K.Key.before I.Item.named I.Item.value count body.now xs) }
 {
-    let mut at = 0;
+    let mut rest = body;
     let mut last = None;
     for _ in 0..count {
-        match read_item::<K, I>(&body[at..]) {
-            Some((item, n)) => {
-                let key = item.key();
-                if !is_next(last, key) {
-                    return false;
-                }
-                last = Some(key);
-                at += n;
-            }
-            None => return false,
+        let Some(read) = read_item::<K, I>(rest) else {
+            return false;
+        };
+        let (item, behind) = read;
+        let key = item.key();
+        if !is_next(last, key) {
+            return false;
         }
+        last = Some(key);
+        rest = behind;
     }
-    is_end(at, body)
+    rest.is_empty()
 }
 
 // Whether a node of such entries may begin so: the kind is that of the keys, the level holds such entries, and there are at most 32.
@@ -84,29 +65,25 @@ fn is_head<K: Key, I: Item<K>>(kind: u8, level: u8, count: u8) -> bool
 fn decode_items<K: Key, I: Item<K>>(chunk: &[u8]) -> Option<Node<'_>>
     ensures { MatchOption result (SpellsNone K.Key.code K.Key.before I.Item.named I.Item.value I.Item.holds K.Key.kind chunk.now) (λ n. Views K.Key.code K.Key.before I.Item.named I.Item.value I.Item.holds K.Key.kind chunk.now n.level n.count n.body.now) }
 {
-    if chunk.len() < 4 {
+    let [1, kind, level, count, body @ ..] = chunk else {
+        return None;
+    };
+    if !is_head::<K, I>(*kind, *level, *count) {
         return None;
     }
-    let level = chunk[2];
-    let count = usize::from(chunk[3]);
-    let body = &chunk[4..];
-    match chunk[0] {
-        1 if is_head::<K, I>(chunk[1], level, chunk[3]) && is_list::<K, I>(count, body) => Some(
-            Node { level, count, body },
-        ),
-        _ => None,
-    }
+    let count = usize::from(*count);
+    is_list::<K, I>(count, body).then_some(Node {
+        level: *level,
+        count,
+        body,
+    })
 }
 
 // The node that a chunk is. A chunk that is no well-formed node of this kind of keys, to the last byte, is refused.
 pub fn decode<K: Key>(chunk: &[u8]) -> Result<Node<'_>, TreeFault>
     ensures { MatchResult result (λ n. NodeIn K.Key.code K.Key.before K.Key.kind chunk.now n.level n.count n.body.now) (λ e. (e ≡ malformed) × NoNode K.Key.code K.Key.before K.Key.kind chunk.now) }
 {
-    if let Some(leaf) = decode_items::<K, Entry<K>>(chunk) {
-        return Ok(leaf);
-    }
-    match decode_items::<K, Child<K>>(chunk) {
-        Some(inner) => Ok(inner),
-        None => Err(TreeFault::Malformed),
-    }
+    decode_items::<K, Entry<K>>(chunk)
+        .or_else(|| decode_items::<K, Child<K>>(chunk))
+        .ok_or(TreeFault::Malformed)
 }

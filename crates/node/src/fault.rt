@@ -8,7 +8,7 @@ use std::alloc::AllocError;
 use store::{Part, StoreFault};
 
 // A refusal of the tree: the store's, carried whole, or its own.
-#[derive(Clone, Copy, Debug)]
+#[derive(Clone, Copy, Debug, PartialEq, Eq)]
 pub enum TreeFault {
     Store(StoreFault),
     Malformed,

@@ -3,16 +3,18 @@ ghost use Rattle.std.specs.Prelude.{◌≡◌, ℕ, ◌+◌, ◌^◌, ◌<◌, �
 ghost use Rattle.digest.specs.Bytes.{bytes_of, Whole};
 ghost use Rattle.table.specs.Of.{cell_bytes};
 ghost use Rattle.tree_laws.specs.Layout.{four_bytes, link_bytes, sized};
+ghost use Rattle.arrayvec.specs.ArrayVec.{array_vec_len};
 ghost use Rattle.node.specs.Chunks.{written};
 ghost use Rattle.table.specs.Texts.{same_string};
 ghost use Rattle.tree_laws.proofs.Layouts.{same_sized};
 ghost use Rattle.std.proofs.Common.{rules, arith};
+ghost use Rattle.node.specs.Nodes.{entry_key, entry_value, leaf_level, child_key, child_value, inner_level};
 ghost use Rattle.node.specs.Links.{link_length, same_link, whole_prop};
 ghost use mathlib.Core.HLevel.{is_prop→PathP};
 ghost use Rattle.std.proofs.Math.Bridge.{le_prop};
 
 use crate::child::Child;
-use crate::chunk::Chunk;
+use crate::chunk::{Chunk, append};
 use digest::Address;
 use table::{Cell, Entry, Key};
 
@@ -40,41 +42,34 @@ pub trait Item<K: Key>: Copy {
         ensures { result ≡ holds level };
 
     fn write_value(&self, chunk: &mut Chunk)
-        requires { chunk.old.len + 41 ≤ 2488 }
-        ensures text { written chunk.new ≡ written chunk.old ++ value self.now }
-        ensures len { chunk.new.len ≡ chunk.old.len + length (value self.now) };
+        requires { array_vec_len chunk.old + 41 ≤ 2488 }
+        ensures { written chunk.new ≡ written chunk.old ++ value self.now };
 
-    // The entry with this key whose bytes behind the key are at the start of `s`, and their number.
-    fn read_value(key: K, s: &[u8]) -> Option<(Self, usize)>
-        ensures { MatchOption result ((x : Self) (t : List ℕ) → named x ≡ key → s.now ≢ value x ++ t) (λ p. (named p.0 ≡ key) × (p.1 ≡ length (value p.0)) × (s.now ≡ value p.0 ++ drop p.1 s.now)) };
+    // The entry with this key whose bytes behind the key are at the start of `s`, and the rest of `s`.
+    fn read_value(key: K, s: &[u8]) -> Option<(Self, &[u8])>
+        ensures { MatchOption result ((x : Self) (t : List ℕ) → named x ≡ key → s.now ≢ value x ++ t) (λ p. (named p.0 ≡ key) × (s.now ≡ value p.0 ++ p.1.now)) };
 
     ghost short: { (x : Self) → length (value x) ≤ 41 };
 
     ghost apart: { (x y : Self) (s t : List ℕ) → named x ≡ named y → value x ++ s ≡ value y ++ t → (x ≡ y) × (s ≡ t) };
 }
 
-// The rest of a string that begins with its length: its bytes, or none where it is cut off.
-pub(crate) fn read_sized(s: &[u8]) -> Option<&[u8]>
-    ensures { MatchOption result ((a t : List ℕ) → s.now ≢ sized a ++ t) (λ a. s.now ≡ sized a.now ++ drop (1 + length a.now) s.now) }
+// The bytes that stand behind their length at the start of `s`, and the rest of `s`; none where they are cut off.
+pub(crate) fn read_sized(s: &[u8]) -> Option<(&[u8], &[u8])>
+    ensures { MatchOption result ((a t : List ℕ) → s.now ≢ sized a ++ t) (λ p. s.now ≡ sized p.0.now ++ p.1.now) }
 {
-    if s.len() == 0 {
-        return None;
-    }
-    let n = usize::from(s[0]);
-    if s.len() - 1 < n {
-        return None;
-    }
-    Some(&s[1..n + 1])
+    let (len, rest) = s.split_first()?;
+    rest.split_at_checked(usize::from(*len))
 }
 
 impl<K: Key> Item<K> for Entry<K> {
-    ghost named = { λ e. e.key };
+    ghost named = { entry_key };
 
-    ghost value = { λ e. sized (cell_bytes e.cell) };
+    ghost value = { entry_value };
 
     ghost below = { λ _. 1 };
 
-    ghost holds = { λ l. (l == 0) };
+    ghost holds = { leaf_level };
 
     ghost short = { Prim.search rules };
 
@@ -98,44 +93,24 @@ impl<K: Key> Item<K> for Entry<K> {
     fn write_value(&self, chunk: &mut Chunk) {
         let cell = self.cell.as_slice();
         chunk.push(cell.len() as u8);
-        chunk.append(cell);
+        append(chunk, cell);
     }
 
-    fn read_value(key: K, s: &[u8]) -> Option<(Entry<K>, usize)> {
-        let bytes = read_sized(s)?;
-        match Cell::new(bytes) {
-            Ok(cell) => Some((Entry { key, cell }, 1 + bytes.len())),
-            Err(_) => None,
-        }
+    fn read_value(key: K, s: &[u8]) -> Option<(Entry<K>, &[u8])> {
+        let (bytes, rest) = read_sized(s)?;
+        let cell = Cell::new(bytes).ok()?;
+        Some((Entry { key, cell }, rest))
     }
-}
-
-// The address with these 32 bytes.
-fn read_address(s: &[u8]) -> Address
-    requires { length s.now ≡ 32 }
-    ensures { bytes_of result ≡ s.now }
-{
-    let mut bytes = [0u8; 32];
-    bytes.copy_from_slice(s);
-    Address::from_bytes(bytes)
-}
-
-// The number in these 4 bytes, the highest first.
-fn read_number(s: &[u8]) -> u32
-    requires { length s.now ≡ 4 }
-    ensures { four_bytes result ≡ s.now }
-{
-    u32::from_be_bytes([s[0], s[1], s[2], s[3]])
 }
 
 impl<K: Key> Item<K> for Child<K> {
-    ghost named = { λ c. c.key };
+    ghost named = { child_key };
 
-    ghost value = { λ c. link_bytes c.at c.below };
+    ghost value = { child_value };
 
     ghost below = { λ c. c.below };
 
-    ghost holds = { λ l. nat_le 1 l && nat_le l 15 };
+    ghost holds = { inner_level };
 
     ghost short = { λ x. omega (arith, link_length x.at x.below) };
 
@@ -164,18 +139,17 @@ impl<K: Key> Item<K> for Child<K> {
     }
 
     fn write_value(&self, chunk: &mut Chunk) {
-        let at = self.at.to_bytes();
+        let at = <[u8; 32]>::from(self.at);
         let below = self.below.to_be_bytes();
-        chunk.append(&at);
-        chunk.append(&below);
+        append(chunk, &at);
+        append(chunk, &below);
     }
 
-    fn read_value(key: K, s: &[u8]) -> Option<(Child<K>, usize)> {
-        if s.len() < 36 {
-            return None;
-        }
-        let at = read_address(&s[0..32]);
-        let below = read_number(&s[32..36]);
-        Some((Child { key, at, below }, 36))
+    fn read_value(key: K, s: &[u8]) -> Option<(Child<K>, &[u8])> {
+        let (at, rest) = s.split_first_chunk::<32>()?;
+        let (below, rest) = rest.split_first_chunk::<4>()?;
+        let at = Address::from(*at);
+        let below = u32::from_be_bytes(*below);
+        Some((Child { key, at, below }, rest))
     }
 }

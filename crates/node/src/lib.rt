@@ -4,22 +4,21 @@
 mod boundary;
 mod child;
 mod chunk;
-mod cursor;
 mod decoding;
-mod encode;
+mod encoding;
+mod entries;
 mod fault;
 mod item;
 mod laws;
 mod layout;
 mod order;
-mod writing;
 
 pub use boundary::{closes, first, is_marked};
 pub use child::Child;
 pub use chunk::Chunk;
-pub use cursor::Cursor;
 pub use decoding::{Node, decode};
-pub use encode::{encode_inner, encode_leaf};
+pub use encoding::encode;
+pub use entries::Items;
 pub use fault::TreeFault;
 pub use item::Item;
 pub use laws::nodes_read_back;

@@ -9,12 +9,5 @@ use table::Key;
 pub fn in_order<K: Key, I: Item<K>>(items: &[I]) -> bool
     ensures { Decides result (Rising (λ x y. K.Key.before (I.Item.named x) (I.Item.named y)) items.now) }
 {
-    for i in 1..items.len() {
-        let key = items[i].key();
-        let before = items[i - 1].key();
-        if !before.precedes(&key) {
-            return false;
-        }
-    }
-    true
+    items.is_sorted_by(|before, item| before.key().precedes(&item.key()))
 }

@@ -1,16 +1,12 @@
-use Rattle.std.proofs.Common.{◌++◌, length, ap, ◌∙◌, arith}
+use Rattle.std.proofs.Common.{◌++◌, ap, ◌∙◌}
 use Rattle.node.specs.Chunks.{written}
-use Rattle.node.specs.Links.{wrote_link, link_length}
+use Rattle.node.specs.Links.{wrote_link}
 use Rattle.node.proofs.item.ChildItem.write_value.Goals as goal
 
 pub returns : goal.returns
 returns g c =
-    let at = c.args.self.now.at in
-    let below = c.args.self.now.below in
-    record {
-      text =
-          wrote_link (written c.args.chunk.now) (written c.append.new.self) (written c.append-2.new.self) at below
-          (c.append.ensures.text ∙ ap (λ w. written c.args.chunk.now ++ w) c.to_bytes-at.ensures)
-          (c.append-2.ensures.text ∙ ap (λ w. written c.append.new.self ++ w) c.to_be_bytes-below.ensures);
-      len = omega (arith, c.append.ensures.len, c.append-2.ensures.len, ap length c.to_bytes-at.ensures, ap length c.to_be_bytes-below.ensures, link_length at below);
-    }
+    let was = written c.args.chunk.now in
+    let one = written c.append.new.chunk in
+    wrote_link was one (written c.append-2.new.chunk) c.args.self.now.at c.args.self.now.below
+    (c.append.ensures ∙ ap (λ w. was ++ w) c.from-at.ensures)
+    (c.append-2.ensures ∙ ap (λ w. one ++ w) c.to_be_bytes-below.ensures)
