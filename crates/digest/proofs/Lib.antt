@@ -4,3 +4,4 @@ pub mod Order
 pub mod Bitwise
 pub mod Schedule
 pub mod Blocks
+pub mod Rotations

@@ -1,6 +1,6 @@
-// The eight working words, the six functions on words, and one round made of them.
-ghost use Rattle.std.specs.Prelude.{◌≡◌};
-ghost use Rattle.digest.specs.Sha256.{ch, maj, Σ0, Σ1, σ0, σ1, t1, t2, round, next_word, plus};
+// The eight working words, the standard's functions on words, and one round made of them.
+ghost use Rattle.std.specs.Prelude.{◌≡◌, ◌/◌, ◌^◌, ◌<◌, bit_xor};
+ghost use Rattle.digest.specs.Sha256.{ch, maj, rotr, t1, t2, round, next_word, plus};
 
 // The working words of a block; between blocks, the hash value so far.
 #[derive(Clone, Copy)]
@@ -29,39 +29,31 @@ fn majority(x: u32, y: u32, z: u32) -> u32
     ((x ^ y) & (y ^ z)) ^ y
 }
 
-// The standard's four functions of rotations, each with its own name and formula beside it: constants that a caller passes would
-// hide which is which.
-fn big_sigma0(x: u32) -> u32
-    ensures { result ≡ Σ0 x }
+// Three rotations to the right: the standard's Σ0 by 2, 13 and 22, and its Σ1 by 6, 11 and 25.
+fn big_sigma<const A: u32, const B: u32, const C: u32>(x: u32) -> u32
+    requires positive { (0 < A) × (0 < B) × (0 < C) }
+    requires within { (A < 32) × (B < 32) × (C < 32) }
+    ensures { result ≡ bit_xor (bit_xor (rotr A x) (rotr B x)) (rotr C x) }
 {
-    x.rotate_right(2) ^ x.rotate_right(13) ^ x.rotate_right(22)
+    x.rotate_right(A) ^ x.rotate_right(B) ^ x.rotate_right(C)
 }
 
-fn big_sigma1(x: u32) -> u32
-    ensures { result ≡ Σ1 x }
+// Two rotations and a shift: the standard's σ0 by 7, 18 and 3, and its σ1 by 17, 19 and 10.
+fn small_sigma<const A: u32, const B: u32, const C: u32>(x: u32) -> u32
+    requires positive { (0 < A) × (0 < B) }
+    requires within { (A < 32) × (B < 32) × (C < 32) }
+    ensures { result ≡ bit_xor (bit_xor (rotr A x) (rotr B x)) (x / 2 ^ C) }
 {
-    x.rotate_right(6) ^ x.rotate_right(11) ^ x.rotate_right(25)
-}
-
-fn small_sigma0(x: u32) -> u32
-    ensures { result ≡ σ0 x }
-{
-    x.rotate_right(7) ^ x.rotate_right(18) ^ (x >> 3)
-}
-
-fn small_sigma1(x: u32) -> u32
-    ensures { result ≡ σ1 x }
-{
-    x.rotate_right(17) ^ x.rotate_right(19) ^ (x >> 10)
+    x.rotate_right(A) ^ x.rotate_right(B) ^ (x >> C)
 }
 
 // The schedule word that comes 2, 7, 15 and 16 places behind these four.
 pub(super) fn next_word(back2: u32, back7: u32, back15: u32, back16: u32) -> u32
     ensures { result ≡ next_word back2 back7 back15 back16 }
 {
-    small_sigma1(back2)
+    small_sigma::<17, 19, 10>(back2)
         .wrapping_add(back7)
-        .wrapping_add(small_sigma0(back15))
+        .wrapping_add(small_sigma::<7, 18, 3>(back15))
         .wrapping_add(back16)
 }
 
@@ -69,7 +61,7 @@ pub(super) fn next_word(back2: u32, back7: u32, back15: u32, back16: u32) -> u32
 fn first_temporary(s: Words, k: u32, w: u32) -> u32
     ensures { result ≡ t1 k w s }
 {
-    s.h.wrapping_add(big_sigma1(s.e))
+    s.h.wrapping_add(big_sigma::<6, 11, 25>(s.e))
         .wrapping_add(choose(s.e, s.f, s.g))
         .wrapping_add(k)
         .wrapping_add(w)
@@ -79,7 +71,7 @@ fn first_temporary(s: Words, k: u32, w: u32) -> u32
 fn second_temporary(s: Words) -> u32
     ensures { result ≡ t2 s }
 {
-    big_sigma0(s.a).wrapping_add(majority(s.a, s.b, s.c))
+    big_sigma::<2, 13, 22>(s.a).wrapping_add(majority(s.a, s.b, s.c))
 }
 
 // One round, at the constant `k` and the schedule word `w`.
