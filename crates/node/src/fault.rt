@@ -34,7 +34,7 @@ impl From<AllocError> for TreeFault {
 }
 
 impl TreeFault {
-    // The number of the refusal.
+    // The number of the refusal, by which operators know it; code matches on the enum.
     pub fn number(self) -> u8
         ensures { result ≡ tree_number self }
     {

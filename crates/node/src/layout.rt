@@ -21,7 +21,8 @@ fn write_item<K: Key, I: Item<K>>(chunk: &mut Chunk, item: &I)
     item.write_value(chunk);
 }
 
-// The chunk of a node; none where it has more than 32 entries.
+// The chunk of a node; none where it has more than 32 entries. The level is no part of a struct with the entries: a caller keeps one level,
+// and hands on other entries for each of its nodes.
 pub fn write_node<K: Key, I: Item<K>>(level: u8, items: &[I]) -> Option<Chunk>
     ensures { MatchOption result (32 < length items.now) (λ c. (length items.now ≤ 32) × (written c ≡ item_chunk K.Key.code I.Item.named I.Item.value K.Key.kind level items.now)) }
 {

@@ -49,7 +49,7 @@ pub enum StoreFault {
 }
 
 impl StoreFault {
-    // The number of the refusal.
+    // The number of the refusal, by which operators know it; code matches on the enum.
     pub fn number(self) -> u8
         ensures { result ≡ number_of self }
     {

@@ -26,6 +26,7 @@ pub trait ChunkStore<D: Digest> {
     ghost meaning: { Self → Meaning };
 
     // The states that making a store and its calls lead to. In any other, calls promise nothing but that a get stays within its buffer.
+    // Each promise has it as a premise: a type that held it would ask it of callers.
     ghost sound: { Self → Type 0 } = { λ _. Unit {0} };
 
     // Adds a chunk at its address, unless it is there already.
@@ -34,7 +35,8 @@ pub trait ChunkStore<D: Digest> {
         ensures answer { sound self.old → OrMemory (put_answer D.Digest.digests (meaning self.old) chunk.now) result }
         ensures after { sound self.old → meaning self.new ≡ after_put D.Digest.digests (meaning self.old) chunk.now result };
 
-    // Writes the chunk at an address to the start of the buffer. A layer may move its own copies, so it takes `&mut self`; the meaning stays.
+    // Writes the chunk at an address to the start of the buffer, and answers its length, as `Read::read` does: a get allocates nothing.
+    // A layer may move its own copies, so it takes `&mut self`; the meaning stays.
     fn get(&mut self, address: Address, buffer: &mut [u8]) -> Result<usize, StoreFault>
         ensures within { Within result (length buffer.old) }
         ensures kept { sound self.old → sound self.new }

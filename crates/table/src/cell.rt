@@ -15,7 +15,7 @@ pub struct Cell {
 }
 
 impl Cell {
-    // The cell with these bytes; refused where there are more than 40.
+    // The cell with these bytes; refused where there are more than 40. Apart from a key's `new`: a shared one would have to be told what to refuse.
     pub fn new(s: &[u8]) -> Result<Cell, Limit>
         ensures { MatchResult result (λ c. (length s.now ≤ 40) × (cell_bytes c ≡ s.now)) (λ e. (40 < length s.now) × (e ≡ LongCell)) }
     {

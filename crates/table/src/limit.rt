@@ -10,7 +10,7 @@ pub enum Limit {
 }
 
 impl Limit {
-    // The number of the refusal.
+    // The number of the refusal, by which operators know it; code matches on the enum.
     pub fn number(self) -> u8
         ensures { result ≡ limit_number self }
     {
