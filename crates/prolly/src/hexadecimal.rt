@@ -52,6 +52,7 @@ pub fn decode(heap: Global, digits: &[u8]) -> Result<Vec<u8>, HexFault>
     let (pairs, []) = digits.as_chunks::<2>() else {
         return Err(HexFault::Odd);
     };
+    // A `for`: through `map` and `try_collect` it was not proved which place a refusal names.
     let mut bytes = Vec::new(heap);
     for (i, &[high, low]) in pairs.iter().enumerate() {
         let high = value_of(high).ok_or(HexFault::NoDigit(2 * i))?;
