@@ -1,13 +1,8 @@
--- Loops over the entries of a level: one that looks for the end of the first node, and one that takes one node after another.
+-- A loop over the entries of a level that looks for the end of the first node.
 use Rattle.std.proofs.Common.{◌≡◌, ℕ, ◌+◌, ◌<◌, ◌≤◌, Bool, true, false, eqb, List, [], ◌∷◌, ◌++◌, length, get_or, take, drop, sym, refl, ap, ◌∙◌, ap₂, ⊎_elim, arith}
 use Rattle.std.proofs.lemmas.List.{length-drop, drop_more, take_more, drop_all, take_all}
 use Rattle.std.proofs.lemmas.Bool.{cases_eq, cond-true, cond-false, eq-eqb, ne_eqb}
 use Rattle.tree_laws.specs.Boundary.{none_left, closes, glue, nodes_from, nodes}
-
--- parts of these sizes, one behind the other
-abbrev pub by_sizes : {X : Type 0} → List ℕ → List X → List (List X)
-by_sizes [] xs = []
-by_sizes (n ∷ ns) xs = take n xs ∷ by_sizes ns (drop n xs)
 
 -- these entries at the front of the first node
 abbrev pub before : {X : Type 0} → List X → List (List X) → List (List X)
