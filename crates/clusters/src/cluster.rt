@@ -6,7 +6,6 @@ ghost use Rattle.clusters.specs.Standing.{standing_of};
 
 use crate::reading::{LineFault, Reading};
 use crate::refusal::show_refusal;
-use anyhow::anyhow;
 use digest::{Address, Digest, Fnv64, Sha256};
 use std::collections::BTreeMap;
 use std::fs::File;
@@ -29,7 +28,7 @@ pub struct Record {
 }
 
 // How the records of two clusters at one place stand to each other.
-#[derive(Clone, Copy)]
+#[derive(Clone, Copy, Debug, PartialEq, Eq)]
 pub enum Standing {
     Same,
     Differs,
@@ -53,20 +52,17 @@ impl Record {
         ensures { result ≡ standing_of self other }
     {
         match other {
-            Some(there) => {
-                if self.sha256 == there.sha256 && self.fnv64 == there.fnv64 {
-                    Standing::Same
-                } else {
-                    Standing::Differs
-                }
+            Some(there) if self.sha256 == there.sha256 && self.fnv64 == there.fnv64 => {
+                Standing::Same
             }
+            Some(_) => Standing::Differs,
             None => Standing::Alone,
         }
     }
 }
 
 // How often something happened.
-#[derive(Clone, Copy)]
+#[derive(Clone, Copy, Default)]
 pub struct Counts {
     pub corrected: u32,
     pub malformed: u32,
@@ -92,13 +88,7 @@ impl Cluster {
         let heap = rt.alloc();
         let mut cluster = Cluster {
             records: BTreeMap::new(heap),
-            counts: Counts {
-                corrected: 0,
-                malformed: 0,
-                taken: 0,
-                held: 0,
-                refused: 0,
-            },
+            counts: Counts::default(),
         };
         let lines = BufReader::new(heap, File::open(rt, path)?)?.split(heap, b'\n');
         for (index, line) in lines.enumerate() {
@@ -109,7 +99,7 @@ impl Cluster {
                     let number = index.saturating_add(1);
                     println!(rt; "  {path}, line {number}, left out: {fault}")?;
                 }
-                Err(LineFault::Memory) => return Err(anyhow!("out of memory")),
+                Err(fault) => return Err(fault.into()),
             }
         }
         Ok(cluster)
@@ -132,11 +122,8 @@ impl Cluster {
             }
         }
         let (tag, time, value) = reading.into_parts();
-        if self
-            .records
-            .insert(Place { tag, time }, Record::of(value, bytes.as_slice()))?
-            .is_some()
-        {
+        let record = Record::of(value, bytes.as_slice());
+        if self.records.insert(Place { tag, time }, record)?.is_some() {
             self.counts.corrected = self.counts.corrected.saturating_add(1);
         }
         Ok(())
@@ -149,10 +136,9 @@ impl Cluster {
 
     // The sum of all values.
     pub fn total(&self) -> i128 {
-        let mut total = 0i128;
-        for record in self.records.values() {
-            total = total.saturating_add(i128::from(record.value));
-        }
-        total
+        self.records
+            .values()
+            .map(|record| i128::from(record.value))
+            .fold(0, i128::saturating_add)
     }
 }

@@ -104,48 +104,20 @@ fn show_full(rt: &HostRuntime) -> anyhow::Result<()> {
     Ok(())
 }
 
-// Lists what both clusters have alike, and says how many.
-fn list_same(rt: &HostRuntime, north: &Cluster, south: &Cluster) -> anyhow::Result<u32> {
-    println!(rt; "the same in both")?;
-    let mut count = 0u32;
-    for (place, record) in north.records.iter() {
-        if let Standing::Same = record.standing(south.at(place)) {
-            show(rt, "both", place, *record)?;
-            count = count.saturating_add(1);
-        }
-    }
-    Ok(count)
-}
-
-// Lists the places at which the clusters differ, with what each has there, and says how many.
-fn list_differing(rt: &HostRuntime, north: &Cluster, south: &Cluster) -> anyhow::Result<u32> {
-    println!(rt; "different")?;
-    let mut count = 0u32;
-    for (place, record) in north.records.iter() {
-        let Some(there) = south.at(place) else {
-            continue;
-        };
-        if let Standing::Differs = record.standing(Some(there)) {
-            show(rt, "north", place, *record)?;
-            show(rt, "south", place, there)?;
-            count = count.saturating_add(1);
-        }
-    }
-    Ok(count)
-}
-
-// Lists what `here` has and `there` lacks, and says how many.
-fn list_alone(
-    rt: &HostRuntime,
-    name: &str,
+// Prints each record of `here` that stands as wanted to what `there` has at its place, and says how many.
+fn list<F: Fn(&Place, Record, Option<Record>) -> anyhow::Result<()>>(
     here: &Cluster,
     there: &Cluster,
-) -> anyhow::Result<u32> {
-    println!(rt; "only in {name}")?;
+    wanted: Standing,
+    print: F,
+) -> anyhow::Result<u32>
+    requires { F.IsAlwaysCallable print }
+{
     let mut count = 0u32;
     for (place, record) in here.records.iter() {
-        if let Standing::Alone = record.standing(there.at(place)) {
-            show(rt, name, place, *record)?;
+        let other = there.at(place);
+        if record.standing(other) == wanted {
+            print(place, *record, other)?;
             count = count.saturating_add(1);
         }
     }
@@ -153,10 +125,26 @@ fn list_alone(
 }
 
 fn compare(rt: &HostRuntime, north: &Cluster, south: &Cluster) -> anyhow::Result<()> {
-    let same = list_same(rt, north, south)?;
-    let differ = list_differing(rt, north, south)?;
-    let only_north = list_alone(rt, "north", north, south)?;
-    let only_south = list_alone(rt, "south", south, north)?;
+    println!(rt; "the same in both")?;
+    let same = list(north, south, Standing::Same, |place, record, _| {
+        show(rt, "both", place, record)
+    })?;
+    println!(rt; "different")?;
+    let differ = list(north, south, Standing::Differs, |place, record, other| {
+        show(rt, "north", place, record)?;
+        if let Some(other) = other {
+            show(rt, "south", place, other)?;
+        }
+        Ok(())
+    })?;
+    println!(rt; "only in north")?;
+    let only_north = list(north, south, Standing::Alone, |place, record, _| {
+        show(rt, "north", place, record)
+    })?;
+    println!(rt; "only in south")?;
+    let only_south = list(south, north, Standing::Alone, |place, record, _| {
+        show(rt, "south", place, record)
+    })?;
     println!(rt;
         "{same} the same, {differ} different, {only_north} only in north, {only_south} only in south"
     )?;

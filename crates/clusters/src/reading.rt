@@ -3,7 +3,7 @@ ghost use Rattle.std.specs.Prelude.{◌≡◌, ◌≤◌, IfOk, string_bytes, st
 ghost use Rattle.clusters.specs.Record.{record_bytes};
 
 use std::alloc::{AllocError, Global};
-use std::fmt;
+use thiserror::Error;
 
 // The longest tag, in bytes.
 const LONGEST_TAG: usize = 32;
@@ -17,81 +17,55 @@ pub struct Reading {
 }
 
 // What is wrong with a line.
-#[derive(Clone, Copy)]
+#[derive(Clone, Copy, Debug, PartialEq, Eq, Error)]
 pub enum Malformed {
+    #[error("not text")]
     NotText,
+    #[error("not three fields")]
     NotThreeFields,
+    #[error("no tag")]
     NoTag,
+    #[error("a tag of more than {longest} bytes", longest = LONGEST_TAG)]
     LongTag,
+    #[error("the time is not a whole number")]
     Time,
+    #[error("the value is not a whole number")]
     Value,
 }
 
-impl fmt::Display for Malformed {
-    fn fmt<W: fmt::Write>(&self, f: &mut fmt::Formatter<W>) -> fmt::Result {
-        match self {
-            Malformed::NotText => f.write_str("not text"),
-            Malformed::NotThreeFields => f.write_str("not three fields"),
-            Malformed::NoTag => f.write_str("no tag"),
-            Malformed::LongTag => f.write_str("a tag of more than 32 bytes"),
-            Malformed::Time => f.write_str("the time is not a whole number"),
-            Malformed::Value => f.write_str("the value is not a whole number"),
-        }
-    }
-}
-
 // Why a line gave no reading.
-#[derive(Drop)]
+#[derive(Debug, PartialEq, Eq, Drop, Error)]
 pub enum LineFault {
-    Malformed(Malformed),
-    Memory,
-}
-
-impl From<Malformed> for LineFault {
-    fn from(fault: Malformed) -> LineFault {
-        LineFault::Malformed(fault)
-    }
-}
-
-impl From<AllocError> for LineFault {
-    fn from(_: AllocError) -> LineFault {
-        LineFault::Memory
-    }
+    #[error(transparent)]
+    Malformed(#[from] Malformed),
+    #[error("out of memory")]
+    Memory(#[from(alloc)] AllocError),
 }
 
 // The three fields of a line.
-fn fields(line: &str) -> Result<(&str, &str, &str), Malformed> {
-    let Some((tag, rest)) = line.split_once(',') else {
-        return Err(Malformed::NotThreeFields);
-    };
-    let Some((time, value)) = rest.split_once(',') else {
-        return Err(Malformed::NotThreeFields);
-    };
-    if value.split_once(',').is_some() {
-        return Err(Malformed::NotThreeFields);
+fn fields(line: &str) -> Option<(&str, &str, &str)> {
+    let (tag, rest) = line.split_once(',')?;
+    let (time, value) = rest.split_once(',')?;
+    if value.contains(',') {
+        None
+    } else {
+        Some((tag, time, value))
     }
-    Ok((tag, time, value))
 }
 
 impl Reading {
     // The reading that a line has.
     pub fn parse(heap: Global, line: &[u8]) -> Result<Reading, LineFault> {
-        let Ok(text) = std::str::from_utf8(line) else {
-            return Err(LineFault::Malformed(Malformed::NotText));
-        };
-        let (tag, time, value) = fields(text)?;
+        let text = std::str::from_utf8(line).map_err(|_| Malformed::NotText)?;
+        let (tag, time, value) = fields(text).ok_or(Malformed::NotThreeFields)?;
         if tag.is_empty() {
-            return Err(LineFault::Malformed(Malformed::NoTag));
+            return Err(Malformed::NoTag.into());
         }
         if tag.len() > LONGEST_TAG {
-            return Err(LineFault::Malformed(Malformed::LongTag));
+            return Err(Malformed::LongTag.into());
         }
-        let Ok(time) = time.parse::<i64>() else {
-            return Err(LineFault::Malformed(Malformed::Time));
-        };
-        let Ok(value) = value.parse::<i64>() else {
-            return Err(LineFault::Malformed(Malformed::Value));
-        };
+        let time = time.parse::<i64>().map_err(|_| Malformed::Time)?;
+        let value = value.parse::<i64>().map_err(|_| Malformed::Value)?;
         let tag = String::from_str(heap, tag)?;
         Ok(Reading { tag, time, value })
     }

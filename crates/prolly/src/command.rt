@@ -5,90 +5,50 @@ ghost use Rattle.prolly.specs.Named.{word_of};
 
 use crate::hexadecimal::{HexFault, decode};
 use std::alloc::{AllocError, Global};
-use std::fmt;
+use thiserror::Error;
 
 // The digests by the names that a script gives them.
-#[derive(Clone, Copy)]
+#[derive(Clone, Copy, Debug, PartialEq, Eq)]
 pub enum DigestName {
     Sha256,
     Fnv,
 }
 
-#[derive(Drop)]
+#[derive(Debug, PartialEq, Eq, Drop)]
 pub enum Command {
     Digest(DigestName, Vec<u8>),
 }
 
 // What is wrong with a line, in plain words.
-#[derive(Drop)]
+#[derive(Debug, PartialEq, Eq, Drop, Error)]
 pub enum LineError {
+    #[error("the line is not text")]
     NotText,
+    #[error("words are separated by single blanks")]
     Blanks,
+    #[error("there is no call {0}")]
     NoSuchCall(String),
+    #[error("digest takes a digest and a byte string, but {0} words follow it")]
     DigestWords(usize),
+    #[error("there is no digest {0}, only sha256 and fnv")]
     NoSuchDigest(String),
-    OddDigits,
-    NoDigit(usize),
-    Memory,
-}
-
-impl From<AllocError> for LineError {
-    fn from(_: AllocError) -> LineError {
-        LineError::Memory
-    }
-}
-
-impl From<HexFault> for LineError {
-    fn from(fault: HexFault) -> LineError {
-        match fault {
-            HexFault::Odd => LineError::OddDigits,
-            HexFault::NoDigit(place) => LineError::NoDigit(place),
-            HexFault::Memory => LineError::Memory,
-        }
-    }
-}
-
-impl fmt::Display for LineError {
-    fn fmt<W: fmt::Write>(&self, f: &mut fmt::Formatter<W>) -> fmt::Result {
-        match self {
-            LineError::NotText => f.write_str("the line is not text"),
-            LineError::Blanks => f.write_str("words are separated by single blanks"),
-            LineError::NoSuchCall(word) => write!(f, "there is no call {word}"),
-            LineError::DigestWords(given) => write!(
-                f,
-                "digest takes a digest and a byte string, but {given} words follow it"
-            ),
-            LineError::NoSuchDigest(word) => write!(
-                f,
-                "there is no digest {word}, only sha256 and fnv"
-            ),
-            LineError::OddDigits => f.write_str(
-                "a byte string has two hexadecimal digits for each byte, but here their number is odd",
-            ),
-            LineError::NoDigit(place) => {
-                let number = place.saturating_add(1);
-                write!(
-                    f,
-                    "character {number} of the byte string is not a lowercase hexadecimal digit"
-                )
-            }
-            LineError::Memory => f.write_str("out of memory"),
-        }
-    }
+    #[error(transparent)]
+    Digits(#[from] HexFault),
+    #[error("out of memory")]
+    Memory(#[from(alloc)] AllocError),
 }
 
 // The words of a line.
 fn words_of(heap: Global, text: &str) -> Result<Vec<&str>, LineError> {
-    let mut words = Vec::new(heap);
-    for word in text.split(' ') {
-        if word.is_empty() {
-            return Err(LineError::Blanks);
-        }
-        if words.push(word).is_err() {
-            return Err(LineError::Memory);
-        }
-    }
-    Ok(words)
+    text.split(' ')
+        .map(|word| -> Result<&str, LineError> {
+            if word.is_empty() {
+                Err(LineError::Blanks)
+            } else {
+                Ok(word)
+            }
+        })
+        .try_collect(heap)
 }
 
 fn digest_name(heap: Global, word: &str) -> Result<DigestName, LineError>
@@ -118,30 +78,15 @@ fn digest_call(heap: Global, arguments: &[&str]) -> Result<Command, LineError> {
     Ok(Command::Digest(digest_name(heap, *name)?, byte_string(heap, *bytes)?))
 }
 
-// Whether a line has nothing but blanks.
-fn is_blank(text: &str) -> bool {
-    for byte in text.bytes() {
-        if byte != b' ' {
-            return false;
-        }
-    }
-    true
-}
-
 // The call that a line asks for, or none where it is blank or a comment.
 pub fn parse(heap: Global, line: &[u8]) -> Result<Option<Command>, LineError> {
-    let Ok(text) = std::str::from_utf8(line) else {
-        return Err(LineError::NotText);
-    };
-    if is_blank(text) || text.starts_with('#') {
+    let text = std::str::from_utf8(line).map_err(|_| LineError::NotText)?;
+    if text.starts_with('#') || text.bytes().all(|byte| byte == b' ') {
         return Ok(None);
     }
-    let words = words_of(heap, text)?;
-    let Some((call, arguments)) = words.as_slice().split_first() else {
-        return Ok(None);
-    };
-    match *call {
-        "digest" => Ok(Some(digest_call(heap, arguments)?)),
-        other => Err(LineError::NoSuchCall(String::from_str(heap, other)?)),
+    match words_of(heap, text)?.as_slice() {
+        [] => Ok(None),
+        ["digest", arguments @ ..] => Ok(Some(digest_call(heap, arguments)?)),
+        [other, ..] => Err(LineError::NoSuchCall(String::from_str(heap, other)?)),
     }
 }

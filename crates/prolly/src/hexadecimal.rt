@@ -5,15 +5,20 @@ ghost use Rattle.prolly.specs.declared.hexadecimal.HexFault.TheVariants.{Memory}
 ghost use Rattle.prolly.specs.Refusal.{Refuses};
 
 use std::alloc::{AllocError, AllocFailed, Global};
+use thiserror::Error;
 
 // Why digits are not those of a byte string. A digit is named by its place, from 0.
-#[derive(Clone, Copy)]
+#[derive(Clone, Copy, Debug, PartialEq, Eq, Error)]
 pub enum HexFault {
+    #[error("a byte string has two hexadecimal digits for each byte, but here their number is odd")]
     Odd,
+    #[error("character {} of the byte string is not a lowercase hexadecimal digit", .0.saturating_add(1))]
     NoDigit(usize),
+    #[error("out of memory")]
     Memory,
 }
 
+// By hand, since a clause of `decode` names the fault that a `?` makes.
 impl From<AllocError> for HexFault {
     ghost from_gives = { λ _ r. r ≡ Memory };
 
@@ -44,17 +49,13 @@ fn value_of(digit: u8) -> Option<u8>
 pub fn decode(heap: Global, digits: &[u8]) -> Result<Vec<u8>, HexFault>
     ensures { MatchResult result (λ v. hex v.items ≡ digits.now) (λ e. Refuses e digits.now) }
 {
-    if digits.len() % 2 == 1 {
+    let (pairs, []) = digits.as_chunks::<2>() else {
         return Err(HexFault::Odd);
-    }
+    };
     let mut bytes = Vec::new(heap);
-    for i in 0..digits.len() / 2 {
-        let Some(high) = value_of(digits[2 * i]) else {
-            return Err(HexFault::NoDigit(2 * i));
-        };
-        let Some(low) = value_of(digits[2 * i + 1]) else {
-            return Err(HexFault::NoDigit(2 * i + 1));
-        };
+    for (i, &[high, low]) in pairs.iter().enumerate() {
+        let high = value_of(high).ok_or(HexFault::NoDigit(2 * i))?;
+        let low = value_of(low).ok_or(HexFault::NoDigit(2 * i + 1))?;
         bytes.push(16 * high + low)?;
     }
     Ok(bytes)

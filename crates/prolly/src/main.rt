@@ -7,7 +7,7 @@ mod hexadecimal;
 ghost use Rattle.std.specs.Prelude.{◌≡◌};
 ghost use Rattle.prolly.specs.Named.{named_address};
 
-use anyhow::anyhow;
+use anyhow::bail;
 use command::{Command, DigestName, parse};
 use digest::{Address, Digest, Fnv64, Sha256};
 use std::env;
@@ -34,7 +34,7 @@ fn execute(rt: &HostRuntime, command: Command) -> anyhow::Result<()> {
 
 fn run(rt: &HostRuntime) -> anyhow::Result<()> {
     if env::args(rt)?.count() > 1 {
-        return Err(anyhow!("prolly takes no arguments: it reads a script from standard input"));
+        bail!("prolly takes no arguments: it reads a script from standard input");
     }
     for line in BufReader::new(rt.alloc(), rt.stdin())?.split(rt.alloc(), b'\n') {
         match parse(rt.alloc(), line?.as_slice()) {

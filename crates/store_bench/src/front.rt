@@ -10,12 +10,9 @@ pub struct Front;
 pub fn address_of(bytes: &[u8]) -> Address
     ensures { result ≡ front_address bytes.now }
 {
-    if bytes.len() < 32 {
-        return Address::ZERO;
-    }
-    let mut front = [0u8; 32];
-    front.copy_from_slice(&bytes[0..32]);
-    Address::from_bytes(front)
+    bytes
+        .first_chunk()
+        .map_or(Address::ZERO, |front| Address::from(*front))
 }
 
 impl Digest for Front {

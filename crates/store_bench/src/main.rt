@@ -4,7 +4,7 @@
 
 mod front;
 
-use anyhow::anyhow;
+use anyhow::Context;
 use front::{Front, address_of};
 use memory::MemoryTable;
 use std::env;
@@ -23,37 +23,25 @@ fn chunk_of(number: u64) -> [u8; CHUNK] {
     chunk
 }
 
-fn put_chunks(table: &mut MemoryTable, count: u64) -> u64 {
-    let mut taken = 0u64;
-    for number in 0..count {
-        if let Ok(Put::Taken(_)) = <MemoryTable as ChunkStore<Front>>::put(
-            table,
-            &chunk_of(number),
-        ) {
-            taken = taken.saturating_add(1);
-        }
-    }
-    taken
+fn put_chunks(table: &mut MemoryTable, count: u64) -> usize {
+    (0..count)
+        .map(|number| <MemoryTable as ChunkStore<Front>>::put(table, &chunk_of(number)))
+        .filter(|answer| matches!(answer, Ok(Put::Taken(_))))
+        .count()
 }
 
-fn get_chunks(table: &mut MemoryTable, count: u64, buffer: &mut [u8]) -> u64 {
-    let mut read = 0u64;
-    for number in 0..count {
-        let chunk = chunk_of(number);
-        let address = address_of(&chunk);
-        if let Ok(_) = <MemoryTable as ChunkStore<Front>>::get(table, address, buffer) {
-            read = read.saturating_add(1);
-        }
-    }
-    read
+fn get_chunks(table: &mut MemoryTable, count: u64, buffer: &mut [u8]) -> usize {
+    (0..count)
+        .map(|number| {
+            let address = address_of(&chunk_of(number));
+            <MemoryTable as ChunkStore<Front>>::get(table, address, buffer)
+        })
+        .filter(|answer| answer.is_ok())
+        .count()
 }
 
 fn run(rt: &HostRuntime) -> anyhow::Result<()> {
-    let mut args = env::args(rt)?;
-    let _ = args.next();
-    let Some(count) = args.next() else {
-        return Err(anyhow!("how many chunks?"));
-    };
+    let count = env::args(rt)?.nth(1).context("how many chunks?")?;
     let count = count.as_str().parse::<u64>()?;
     let mut table = MemoryTable::new(rt.alloc(), 536_870_912);
     let start = Instant::now(rt)?;

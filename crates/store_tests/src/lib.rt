@@ -14,9 +14,7 @@ impl Digest for ByLength {
     fn digest(bytes: &[u8]) -> Address {
         Address {
             w0: bytes.len() as u64,
-            w1: 0,
-            w2: 0,
-            w3: 0,
+            ..Address::ZERO
         }
     }
 }
@@ -30,9 +28,7 @@ impl Digest for AlwaysFour {
     fn digest(_: &[u8]) -> Address {
         Address {
             w0: 4,
-            w1: 0,
-            w2: 0,
-            w3: 0,
+            ..Address::ZERO
         }
     }
 }
@@ -43,61 +39,54 @@ mod tests {
     use memory::MemoryTable;
     use std::alloc::Global;
     use std::process::Abort;
-    use store::{ChunkStore, Fallback, Put, RootedStore, Verifying};
+    use store::{ChunkStore, Fallback, Put, RootedStore, StoreFault, Verifying};
 
-    // 0 for taken, 100 for held, else the number of the refusal.
-    fn put<S: ChunkStore<ByLength>>(store: &mut S, chunk: &[u8]) -> u8 {
-        match store.put(chunk) {
-            Ok(Put::Taken(_)) => 0,
-            Ok(Put::Held(_)) => 100,
-            Err(fault) => fault.number(),
-        }
-    }
-
-    // 0 where the chunk was read, else the number of the refusal.
-    fn get<S: ChunkStore<ByLength>>(store: &mut S, length: u64, buffer: &mut [u8]) -> u8 {
-        let address = Address {
+    // The address of the chunks of a length.
+    fn at(length: u64) -> Address {
+        Address {
             w0: length,
-            w1: 0,
-            w2: 0,
-            w3: 0,
-        };
-        match store.get(address, buffer) {
-            Ok(_) => 0,
-            Err(fault) => fault.number(),
+            ..Address::ZERO
         }
     }
 
-    fn set_root<S: RootedStore<ByLength>>(store: &mut S, old: Address, new: Address) -> u8 {
-        match store.set_root(old, new) {
-            Ok(_) => 0,
-            Err(fault) => fault.number(),
-        }
+    // Of a refusal its number.
+    fn put<S: ChunkStore<ByLength>>(store: &mut S, chunk: &[u8]) -> Result<Put, u8> {
+        store.put(chunk).map_err(StoreFault::number)
+    }
+
+    fn get<S: ChunkStore<ByLength>>(
+        store: &mut S,
+        length: u64,
+        buffer: &mut [u8],
+    ) -> Result<usize, u8> {
+        store.get(at(length), buffer).map_err(StoreFault::number)
+    }
+
+    fn set_root<S: RootedStore<ByLength>>(
+        store: &mut S,
+        old: Address,
+        new: Address,
+    ) -> Result<(), u8> {
+        store.set_root(old, new).map_err(StoreFault::number)
     }
 
     fn puts<S: RootedStore<ByLength>>(rt: &impl Abort, store: &mut S) {
-        assert_eq!(rt; put(store, &[7; 2489]), 1);
-        assert_eq!(rt; put(store, b"pump"), 0);
-        assert_eq!(rt; put(store, b"pump"), 100);
-        assert_eq!(rt; put(store, b"flow"), 2);
-        assert_eq!(rt; put(store, &[7; 2488]), 4);
+        assert_eq!(rt; put(store, &[7; 2489]), Err(1));
+        assert_eq!(rt; put(store, b"pump"), Ok(Put::Taken(at(4))));
+        assert_eq!(rt; put(store, b"pump"), Ok(Put::Held(at(4))));
+        assert_eq!(rt; put(store, b"flow"), Err(2));
+        assert_eq!(rt; put(store, &[7; 2488]), Err(4));
         assert_eq!(rt; store.free_units(), 3);
     }
 
     fn gets<S: RootedStore<ByLength>>(rt: &impl Abort, store: &mut S) {
         let mut short = [165u8; 3];
-        assert_eq!(rt; get(store, 9, &mut short), 5);
-        assert_eq!(rt; get(store, 4, &mut short), 6);
-        assert!(rt; short[0] == 165 && short[2] == 165);
+        assert_eq!(rt; get(store, 9, &mut short), Err(5));
+        assert_eq!(rt; get(store, 4, &mut short), Err(6));
+        assert_eq!(rt; short, [165; 3]);
         let mut buffer = [165u8; 5];
-        assert_eq!(rt; get(store, 4, &mut buffer), 0);
-        assert!(rt;
-            buffer[0] == b'p'
-                && buffer[1] == b'u'
-                && buffer[2] == b'm'
-                && buffer[3] == b'p'
-                && buffer[4] == 165
-        );
+        assert_eq!(rt; get(store, 4, &mut buffer), Ok(4));
+        assert_eq!(rt; buffer, [b'p', b'u', b'm', b'p', 165]);
     }
 
     fn roots<S: RootedStore<ByLength>>(rt: &impl Abort, store: &mut S) {
@@ -107,14 +96,14 @@ mod tests {
             w2: 3,
             w3: 4,
         };
-        assert_eq!(rt; set_root(store, one, one), 7);
-        assert_eq!(rt; set_root(store, Address::ZERO, one), 0);
+        assert_eq!(rt; set_root(store, one, one), Err(7));
+        assert_eq!(rt; set_root(store, Address::ZERO, one), Ok(()));
         assert_eq!(rt; store.root(), one);
         assert_eq!(rt; store.free_units(), 2);
-        assert_eq!(rt; put(store, &[1; 473]), 0);
-        assert_eq!(rt; put(store, b""), 4, "full to the unit");
-        assert_eq!(rt; put(store, b"pump"), 100);
-        assert_eq!(rt; set_root(store, one, Address::ZERO), 4);
+        assert_eq!(rt; put(store, &[1; 473]), Ok(Put::Taken(at(473))));
+        assert_eq!(rt; put(store, b""), Err(4), "full to the unit");
+        assert_eq!(rt; put(store, b"pump"), Ok(Put::Held(at(4))));
+        assert_eq!(rt; set_root(store, one, Address::ZERO), Err(4));
         assert_eq!(rt; store.root(), one);
     }
 
@@ -176,10 +165,10 @@ mod tests {
 
     // The address 4 is bad, to put and to get, and the buffer stays.
     fn bad_at_four<S: RootedStore<ByLength>>(rt: &impl Abort, store: &mut S) {
-        assert_eq!(rt; put(store, b"pump"), 3);
+        assert_eq!(rt; put(store, b"pump"), Err(3));
         let mut buffer = [165u8; 9];
-        assert_eq!(rt; get(store, 4, &mut buffer), 3);
-        assert!(rt; buffer[0] == 165 && buffer[6] == 165 && buffer[8] == 165);
+        assert_eq!(rt; get(store, 4, &mut buffer), Err(3));
+        assert_eq!(rt; buffer, [165; 9]);
         assert_eq!(rt; store.free_units(), 3);
     }
 
@@ -215,12 +204,12 @@ mod tests {
         let inner = spoilt(&rt, rt.alloc());
         let front = Verifying { inner };
         let mut back = MemoryTable::new(rt.alloc(), 4096);
-        assert_eq!(rt; put(&mut back, b"pump"), 0);
+        assert_eq!(rt; put(&mut back, b"pump"), Ok(Put::Taken(at(4))));
         let mut store = Fallback { front, back };
-        assert_eq!(rt; put(&mut store, b"pump"), 100);
-        assert_eq!(rt; put(&mut store, b"flow"), 2);
+        assert_eq!(rt; put(&mut store, b"pump"), Ok(Put::Held(at(4))));
+        assert_eq!(rt; put(&mut store, b"flow"), Err(2));
         let mut buffer = [165u8; 4];
-        assert_eq!(rt; get(&mut store, 4, &mut buffer), 0);
-        assert!(rt; buffer[0] == b'p' && buffer[3] == b'p');
+        assert_eq!(rt; get(&mut store, 4, &mut buffer), Ok(4));
+        assert_eq!(rt; buffer, *b"pump");
     }
 }

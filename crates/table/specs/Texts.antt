@@ -1,4 +1,4 @@
-use Rattle.std.specs.Prelude.{◌≡◌, ℕ, zero, suc, ◌+◌, ◌<◌, ◌≤◌, true, false, ◌⊎◌, List, [], ◌∷◌, ◌++◌, length, take, drop, replicate, ◌==◌, nat_lt, slice_index, refl}
+use Rattle.std.specs.Prelude.{◌≡◌, ℕ, ◌<◌, ◌≤◌, true, false, ◌⊎◌, List, [], ◌∷◌, ◌++◌, length, take, drop, ◌==◌, nat_lt, refl}
 use Rattle.std.proofs.Common.{sym, ap, ap₂, ◌∙◌, inl, inr, ⊎_elim, arith}
 use mathlib.Core.HLevel.{is_prop→PathP}
 use Rattle.std.proofs.Math.Bool.{Bool-set}
@@ -7,8 +7,8 @@ use Rattle.std.proofs.Math.Nat.{ℕ_set}
 use Rattle.table.specs.Codes.{lex_before, zeros}
 use Rattle.table.specs.declared.bytes.Bytes.{Bytes}
 use Rattle.table.specs.Of.{string}
-use Rattle.std.proofs.lemmas.List.{length-take-le, take-append-drop, length-drop, get_or-drop, get_or-take, ext_get_or}
-use Rattle.std.proofs.lemmas.Bool.{cases_eq, ltb-true, lt-ltb, eq-eqb, ne_eqb, eqb-true, cond-true, cond-false, and_parts, cases_order, and_from}
+use Rattle.std.proofs.lemmas.List.{length-take-le, take-append-drop, length-drop}
+use Rattle.std.proofs.lemmas.Bool.{cases_eq, ltb-true, lt-ltb, eq-eqb, ne_eqb, eqb-true, cond-true, cond-false, and_parts, cases_order}
 
 pub zeros_same : (xs ys : List ℕ) → length xs ≡ length ys → zeros xs ≡ true → zeros ys ≡ true → xs ≡ ys
 zeros_same [] [] n p q = refl
@@ -20,10 +20,6 @@ zeros_same (x ∷ xs) (y ∷ ys) n p q =
     let h : x ≡ y = eqb-true x 0 a.0 ∙ sym (eqb-true y 0 b.0) in
     let t = zeros_same xs ys (omega (arith, n)) a.1 b.1 in
     cc
-
-pub zeros_all : (xs : List ℕ) → ((k : ℕ) → slice_index xs k ≡ 0) → zeros xs ≡ true
-zeros_all [] h = refl
-zeros_all (x ∷ xs) h = and_from (x == 0) (zeros xs) (eq-eqb x 0 (h 0)) (zeros_all xs (λ k. h (suc k)))
 
 -- the order
 step_eq : (x : ℕ) (xs ys : List ℕ) → lex_before (x ∷ xs) (x ∷ ys) ≡ lex_before xs ys
@@ -81,19 +77,6 @@ lex_total (x ∷ xs) (y ∷ ys) p q =
     (λ (a : x < y). absurd (never (sym p ∙ made_less x y xs ys a)))
     (λ (a : y < x). absurd (never (sym q ∙ made_less y x ys xs a))))
     (cases_order x y)
-
-pub replicate_zero : (n k : ℕ) → ◌≡◌ {A = ℕ} (slice_index (replicate n 0) k) 0
-replicate_zero zero k = refl
-replicate_zero (suc n) zero = refl
-replicate_zero (suc n) (suc k) = replicate_zero n k
-
-pub zeros_drop : (n : ℕ) (xs : List ℕ) → ((k : ℕ) → n ≤ k → slice_index xs k ≡ 0) → zeros (drop n xs) ≡ true
-zeros_drop n xs h = zeros_all (drop n xs) (λ k. get_or-drop n xs k 0 ∙ h (n + k) (omega arith))
-
-pub take_is : (s xs : List ℕ) → length s ≤ length xs → ((k : ℕ) → k < length s → slice_index xs k ≡ slice_index s k) → take (length s) xs ≡ s
-take_is s xs le h =
-    let n : length (take (length s) xs) ≡ length s = length-take-le (length s) xs le in
-    ext_get_or 0 (take (length s) xs) s n (λ i lt. let l : i < length s = omega (arith, n, lt) in get_or-take (length s) xs i 0 l ∙ h i l)
 
 -- a string of limited length is its bytes
 pub same_string : {n : ℕ} (x y : Bytes n) → string x ≡ string y → x ≡ y

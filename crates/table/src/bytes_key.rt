@@ -9,7 +9,7 @@ ghost use Rattle.std.proofs.Common.{rules};
 use crate::{Bytes, Key, Limit};
 
 // A byte string as a key. It is its own encoding.
-#[derive(Clone, Copy)]
+#[derive(Clone, Copy, PartialEq, Eq)]
 pub struct BytesKey {
     bytes: Bytes<32>,
 }
@@ -19,10 +19,8 @@ impl BytesKey {
     pub fn new(s: &[u8]) -> Result<BytesKey, Limit>
         ensures { MatchResult result (λ k. (length s.now ≤ 32) × (key_bytes k ≡ s.now)) (λ e. (32 < length s.now) × (e ≡ LongKey)) }
     {
-        match Bytes::new(s) {
-            Some(bytes) => Ok(BytesKey { bytes }),
-            None => Err(Limit::LongKey),
-        }
+        let bytes = Bytes::new(s).ok_or(Limit::LongKey)?;
+        Ok(BytesKey { bytes })
     }
 
     pub fn as_slice(&self) -> &[u8]
@@ -32,14 +30,7 @@ impl BytesKey {
     }
 }
 
-// Bytewise, a prefix first.
-fn comes_before(a: &[u8], b: &[u8]) -> bool
-    ensures { result ≡ lex_before a.now b.now }
-{
-    a < b
-}
-
-// The number of the kind.
+// The number of the kind: a byte of the node format, so no enum.
 const BYTES_KIND: u8 = 2;
 
 impl Key for BytesKey {
@@ -66,7 +57,7 @@ impl Key for BytesKey {
     }
 
     fn precedes(&self, other: &BytesKey) -> bool {
-        comes_before(self.as_slice(), other.as_slice())
+        self.as_slice() < other.as_slice()
     }
 
     fn encode(&self) -> Bytes<32> {
@@ -74,9 +65,6 @@ impl Key for BytesKey {
     }
 
     fn decode(s: &[u8]) -> Option<BytesKey> {
-        match BytesKey::new(s) {
-            Ok(key) => Some(key),
-            Err(_) => None,
-        }
+        BytesKey::new(s).ok()
     }
 }

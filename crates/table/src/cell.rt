@@ -19,10 +19,8 @@ impl Cell {
     pub fn new(s: &[u8]) -> Result<Cell, Limit>
         ensures { MatchResult result (λ c. (length s.now ≤ 40) × (cell_bytes c ≡ s.now)) (λ e. (40 < length s.now) × (e ≡ LongCell)) }
     {
-        match Bytes::new(s) {
-            Some(bytes) => Ok(Cell { bytes }),
-            None => Err(Limit::LongCell),
-        }
+        let bytes = Bytes::new(s).ok_or(Limit::LongCell)?;
+        Ok(Cell { bytes })
     }
 
     pub fn as_slice(&self) -> &[u8]
@@ -32,7 +30,7 @@ impl Cell {
     }
 }
 
-// Equal exactly when the bytes are.
+// Equal exactly when the bytes are. By hand, since no derive promises `decides`.
 impl PartialEq for Cell {
     ghost eq = { λ a b. pointwise nat_eq (cell_bytes a) (cell_bytes b) };
 

@@ -4,7 +4,7 @@ ghost use Rattle.table.specs.Table.{ByKey};
 use crate::{Cell, Key};
 
 // A key with its cell.
-#[derive(Clone, Copy)]
+#[derive(Clone, Copy, PartialEq, Eq)]
 pub struct Entry<K> {
     pub key: K,
     pub cell: Cell,

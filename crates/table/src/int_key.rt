@@ -7,7 +7,7 @@ ghost use Rattle.std.proofs.Common.{rules, arith};
 use crate::{Bytes, Key};
 
 // A signed integer. Its encoding is 8 bytes in two's complement.
-#[derive(Clone, Copy, Debug)]
+#[derive(Clone, Copy, Debug, PartialEq, Eq)]
 pub struct IntKey {
     value: i64,
     ghost fits: { mag value < 2 ^ 63 },
@@ -27,15 +27,7 @@ impl IntKey {
     }
 }
 
-// The number that 8 bytes encode.
-fn read_int(s: &[u8]) -> i64
-    requires { length s.now ≡ 8 }
-    ensures { int_code result ≡ s.now }
-{
-    i64::from_be_bytes([s[0], s[1], s[2], s[3], s[4], s[5], s[6], s[7]])
-}
-
-// The number of the kind.
+// The number of the kind: a byte of the node format, so no enum.
 const INT_KIND: u8 = 1;
 
 impl Key for IntKey {
@@ -68,18 +60,13 @@ impl Key for IntKey {
     }
 
     fn encode(&self) -> Bytes<32> {
-        let [a, b, c, d, e, f, g, h] = self.value.to_be_bytes();
-        let bytes = [
-            a, b, c, d, e, f, g, h, 0, 0, 0, 0, 0, 0, 0, 0, 0, 0, 0, 0, 0, 0, 0, 0, 0, 0, 0, 0, 0,
-            0, 0, 0,
-        ];
+        let mut bytes = [0; 32];
+        bytes[..8].copy_from_slice(&self.value.to_be_bytes());
         Bytes { bytes, len: 8 }
     }
 
     fn decode(s: &[u8]) -> Option<IntKey> {
-        if s.len() != 8 {
-            return None;
-        }
-        Some(IntKey::new(read_int(s)))
+        let bytes = <[u8; 8]>::try_from(s).ok()?;
+        Some(IntKey::new(i64::from_be_bytes(bytes)))
     }
 }

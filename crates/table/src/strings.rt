@@ -12,8 +12,7 @@ impl<const N: usize> Bytes<N> {
     pub fn as_slice(&self) -> &[u8]
         ensures { result.now ≡ string self.now }
     {
-        let whole = &self.bytes[..];
-        &whole[0..self.len]
+        &self.bytes[..self.len]
     }
 
     // The string, or none where it is longer than N bytes.
@@ -24,9 +23,7 @@ impl<const N: usize> Bytes<N> {
             return None;
         }
         let mut bytes = [0; N];
-        for (i, b) in s.iter().enumerate() {
-            bytes[i] = *b;
-        }
+        bytes[..s.len()].copy_from_slice(s);
         Some(Bytes {
             bytes,
             len: s.len(),
@@ -34,14 +31,7 @@ impl<const N: usize> Bytes<N> {
     }
 }
 
-// Whether two strings are the same.
-fn same(a: &[u8], b: &[u8]) -> bool
-    ensures { Decides result (a.now ≡ b.now) }
-{
-    a == b
-}
-
-// Equal exactly when the strings are.
+// Equal exactly when the strings are. By hand, since no derive promises `decides`.
 impl<const N: usize> PartialEq for Bytes<N> {
     ghost eq = { λ a b. pointwise nat_eq (string a) (string b) };
 
@@ -51,7 +41,7 @@ impl<const N: usize> PartialEq for Bytes<N> {
         ensures given { result ≡ pointwise nat_eq (string self.now) (string other.now) }
         ensures decides { Decides result (string self.now ≡ string other.now) }
     {
-        same(self.as_slice(), other.as_slice())
+        self.as_slice() == other.as_slice()
     }
 }
 

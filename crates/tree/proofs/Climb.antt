@@ -1,7 +1,7 @@
 -- Level by level up to the root: what is put so far, and what is still to come.
-use Rattle.std.proofs.Common.{◌≡◌, ℕ, zero, suc, ◌+◌, ◌^◌, ◌<◌, ◌≤◌, Bool, List, [], ◌∷◌, ◌++◌, map, length, get_or, sym, refl, ap, ◌∙◌, subst, arith}
+use Rattle.std.proofs.Common.{◌≡◌, ℕ, zero, suc, ◌+◌, ◌^◌, ◌<◌, ◌≤◌, Bool, List, [], ◌∷◌, ◌++◌, map, length, sym, refl, ap, ◌∙◌, subst, arith}
 use Rattle.tree_laws.proofs.Local.{not_none}
-use Rattle.std.proofs.lemmas.List.{append_assoc, append-nil}
+use Rattle.std.proofs.lemmas.List.{append_assoc}
 use Rattle.digest.specs.declared.address.Address.{Address}
 use Rattle.store.specs.Meaning.{Meaning}
 use Rattle.store.specs.Puts.{AllPut, StoppedAt}
@@ -41,16 +41,6 @@ module _ (d : List ℕ → Address) (kind : ℕ) where
   chunks_more f l (c ∷ []) h = absurd (omega arith)
   chunks_more f l (c ∷ e ∷ es) h = refl
 
-  -- one entry is the root
-  chunks_one : (f l : ℕ) (cs : List Child) → length cs ≡ 1 → chunks_up d kind f l cs ≡ []
-  chunks_one f l [] h = refl
-  chunks_one f l (c ∷ []) h = refl
-  chunks_one f l (c ∷ e ∷ es) h = absurd (omega (arith, h))
-
-  pub up_one : (f l : ℕ) (c : Child) (cs : List Child) → length (c ∷ cs) ≡ 1 → up d kind f l (c ∷ cs) ≡ c
-  up_one f l c [] h = refl
-  up_one f l c (e ∷ es) h = absurd (omega (arith, h))
-
   -- from the first entries cs₀ of level 1 the climb has come to the entries cs of level l, with fuel f
   pub record Climbing (m₀ : Meaning) (cs₀ : List Child) (f l : ℕ) (cs : List Child) (taken : ℕ) (m : Meaning) : Type 0 where
     pub root_is : up d kind f l cs ≡ up d kind 15 1 cs₀
@@ -80,14 +70,6 @@ module _ (d : List ℕ → Address) (kind : ℕ) where
         let rest = chunks_up d kind f (suc l) (next d kind l cs) in
         subst (λ w. Stops d m₀ w s.fault m') (sym (h.parts ∙ ap (λ w. h.done ++ w) (chunks_more f l cs two ∙ ap (λ w. w ++ rest) (sym is))))
         (stops_after d m₀ m m' h.done chunks rest taken s h.put stop)
-
-  -- at the root
-  pub climb_end : (m₀ m : Meaning) (cs₀ : List Child) (f l : ℕ) (cs : List Child) (taken : ℕ) → length cs ≡ 1 → Climbing m₀ cs₀ f l cs taken m → AllPut d m₀ (chunks_up d kind 15 1 cs₀) taken m
-  climb_end m₀ m cs₀ f l cs taken one h = subst (λ w. AllPut d m₀ w taken m) (sym (h.parts ∙ (ap (λ w. h.done ++ w) (chunks_one f l cs one) ∙ append-nil h.done))) h.put
-
-  pub root_one : (f l : ℕ) (cs : List Child) (c : Child) → length cs ≡ 1 → c ≡ get_or cs 0 c → up d kind f l cs ≡ c
-  root_one f l [] c one is = absurd (omega (arith, one))
-  root_one f l (e ∷ es) c one is = up_one f l e es one ∙ sym is
 
 -- two entries or more want fuel
 pub some_fuel : (f n : ℕ) → 2 ≤ n → n ≤ 2 ^ f → (k : ℕ) × (f ≡ suc k)

@@ -6,7 +6,7 @@ ghost use Rattle.tree_laws.specs.Tables.{row_of};
 use crate::level::{put_level, put_node};
 use crate::upper::{Built, put_upper};
 use digest::Digest;
-use node::{Child, Chunk, TreeFault, in_order};
+use node::{Child, TreeFault, in_order};
 use std::alloc::Global;
 use store::{ChunkStore, StoreFault};
 use table::{Entry, Key};
@@ -23,13 +23,11 @@ fn build_empty<K: Key, D: Digest, S: ChunkStore<D>>(
     ensures kept { S.ChunkStore.sound store.old → S.ChunkStore.sound store.new }
     ensures does { S.ChunkStore.sound store.old → PutsTree D.Digest.digests K.Key.kind (S.ChunkStore.meaning store.old) (map (row_of K.Key.code) entries.now) result (S.ChunkStore.meaning store.new) }
 {
-    match put_node::<K, D, S, Entry<K>>(store, &mut Chunk::new(), 0, entries) {
-        Ok(put) => Ok(Built {
-            root: put.address(),
-            taken: put.count(),
-        }),
-        Err(fault) => Err(fault),
-    }
+    let put = put_node::<K, D, S, Entry<K>>(store, 0, entries)?;
+    Ok(Built {
+        root: put.address(),
+        taken: put.count(),
+    })
 }
 
 // The tree of a table with entries. `children` and `spare` have room for the entries of the levels above the leaves, so that
@@ -37,7 +35,7 @@ fn build_empty<K: Key, D: Digest, S: ChunkStore<D>>(
 fn build_some<K: Key, D: Digest, S: ChunkStore<D>>(
     store: &mut S,
     entries: &[Entry<K>],
-    children: Vec<Child<K>>,
+    mut children: Vec<Child<K>>,
     spare: Vec<Child<K>>,
 ) -> Result<Built, StoreFault>
     requires some { 0 < length entries.now }
@@ -48,18 +46,12 @@ fn build_some<K: Key, D: Digest, S: ChunkStore<D>>(
     ensures kept { S.ChunkStore.sound store.old → S.ChunkStore.sound store.new }
     ensures does { S.ChunkStore.sound store.old → PutsTree D.Digest.digests K.Key.kind (S.ChunkStore.meaning store.old) (map (row_of K.Key.code) entries.now) result (S.ChunkStore.meaning store.new) }
 {
-    let mut children = children;
-    let mut chunk = Chunk::new();
-    match put_level::<K, D, S, Entry<K>>(store, &mut chunk, 0, entries, &mut children) {
-        Ok(taken) => match put_upper::<K, D, S>(store, &mut chunk, children, spare) {
-            Ok(upper) => Ok(Built {
-                root: upper.root,
-                taken: taken + upper.taken,
-            }),
-            Err(fault) => Err(fault),
-        },
-        Err(stopped) => Err(stopped.fault),
-    }
+    let taken = put_level::<K, D, S, Entry<K>>(store, 0, entries, &mut children)?;
+    let upper = put_upper::<K, D, S>(store, children, spare)?;
+    Ok(Built {
+        taken: taken + upper.taken,
+        ..upper
+    })
 }
 
 // Puts the tree of the table that has these entries, level by level from the leaves, left to right, up to the first refusal.
@@ -78,12 +70,10 @@ pub fn build_tree<K: Key, D: Digest, S: ChunkStore<D>>(
     if !in_order::<K, Entry<K>>(entries) {
         return Err(TreeFault::Unordered);
     }
-    if entries.len() == 0 {
-        let built = build_empty::<K, D, S>(store, entries)?;
-        return Ok(built);
+    if entries.is_empty() {
+        return Ok(build_empty::<K, D, S>(store, entries)?);
     }
     let children = Vec::with_capacity(heap, entries.len() / 2 + 1)?;
     let spare = Vec::with_capacity(heap, entries.len() / 4 + 2)?;
-    let built = build_some::<K, D, S>(store, entries, children, spare)?;
-    Ok(built)
+    Ok(build_some::<K, D, S>(store, entries, children, spare)?)
 }

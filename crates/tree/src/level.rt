@@ -1,5 +1,5 @@
 // One level of a tree on its way into a store.
-ghost use Rattle.std.specs.Prelude.{◌≡◌, ◌+◌, ◌*◌, ◌^◌, ◌<◌, ◌≤◌, map, length, IfOk, vec_len, vec_capacity, OnOk};
+ghost use Rattle.std.specs.Prelude.{◌≡◌, ◌+◌, ◌*◌, ◌^◌, ◌<◌, ◌≤◌, map, length, IfOk, vec_len, vec_capacity, OnOk, sum_by};
 ghost use Rattle.store.specs.Meaning.{OrMemory, put_answer, after_put};
 ghost use Rattle.store.specs.Puts.{PutsInTurn};
 ghost use Rattle.tree_laws.specs.Boundary.{nodes};
@@ -7,50 +7,28 @@ ghost use Rattle.tree_laws.specs.Tree.{last_of};
 ghost use Rattle.node.specs.Items.{item_chunk, item_marked, level_above, level_chunks, child_of, total_below};
 
 use digest::{Address, Digest};
-use node::{Child, Chunk, Item, first, write_node};
+use node::{Child, Item, first, write_node};
 use store::{ChunkStore, Put, Stopped, StoreFault};
 use table::Key;
-
-// The number of table entries at or below some entries.
-fn count_all<K: Key, I: Item<K>>(items: &[I]) -> u32
-    requires { total_below I.Item.below items.now < 2 ^ 32 }
-    ensures { result ≡ total_below I.Item.below items.now }
-{
-    let mut total = 0;
-    for item in items {
-        total += item.count_below();
-    }
-    total
-}
-
-// The greatest key of entries in key order.
-fn last_key<K: Key, I: Item<K>>(items: &[I]) -> K
-    requires { 0 < length items.now }
-    ensures { K.Key.code result ≡ last_of (λ x. K.Key.code (I.Item.named x)) items.now }
-{
-    let last = items[items.len() - 1];
-    last.key()
-}
 
 // The entry above a node that stands at an address.
 fn above<K: Key, I: Item<K>>(items: &[I], at: Address) -> Child<K>
     requires some { 0 < length items.now }
-    requires few { total_below I.Item.below items.now < 2 ^ 32 }
+    requires few { sum_by I.Item.below items.now < 2 ^ 32 }
     ensures key { K.Key.code result.key ≡ last_of (λ x. K.Key.code (I.Item.named x)) items.now }
     ensures place { result.at ≡ at }
-    ensures count { result.below ≡ total_below I.Item.below items.now }
+    ensures count { result.below ≡ sum_by I.Item.below items.now }
 {
     Child {
-        key: last_key::<K, I>(items),
+        key: items.last().unwrap().key(),
         at,
-        below: count_all::<K, I>(items),
+        below: items.iter().map(|item| item.count_below()).sum(),
     }
 }
 
 // Puts a node.
 pub(crate) fn put_node<K: Key, D: Digest, S: ChunkStore<D>, I: Item<K>>(
     store: &mut S,
-    chunk: &mut Chunk,
     level: u8,
     items: &[I],
 ) -> Result<Put, StoreFault>
@@ -59,16 +37,13 @@ pub(crate) fn put_node<K: Key, D: Digest, S: ChunkStore<D>, I: Item<K>>(
     ensures answer { S.ChunkStore.sound store.old → OrMemory (put_answer D.Digest.digests (S.ChunkStore.meaning store.old) (item_chunk K.Key.code I.Item.named I.Item.value K.Key.kind level items.now)) result }
     ensures after { S.ChunkStore.sound store.old → S.ChunkStore.meaning store.new ≡ after_put D.Digest.digests (S.ChunkStore.meaning store.old) (item_chunk K.Key.code I.Item.named I.Item.value K.Key.kind level items.now) result }
 {
-    if !write_node::<K, I>(chunk, level, items) {
-        return Err(StoreFault::TooLong);
-    }
+    let chunk = write_node::<K, I>(level, items).ok_or(StoreFault::TooLong)?;
     store.put(chunk.as_slice())
 }
 
 // Puts the nodes of a level from the left, up to the first refusal, and makes the entries of the level above.
 pub(crate) fn put_level<K: Key, D: Digest, S: ChunkStore<D>, I: Item<K>>(
     store: &mut S,
-    chunk: &mut Chunk,
     level: u8,
     items: &[I],
     out: &mut Vec<Child<K>>,
@@ -85,22 +60,17 @@ pub(crate) fn put_level<K: Key, D: Digest, S: ChunkStore<D>, I: Item<K>>(
     ensures count { IfOk result (λ n. n ≤ vec_len out.new) }
 {
     let mut taken = 0;
-    let mut at = 0;
-    while at < items.len() {
-        let n = first::<K, I>(level, &items[at..]);
-        let node = &items[at..at + n];
-        match put_node::<K, D, S, I>(store, chunk, level, node) {
-            Ok(put) => {
-                taken += put.count();
-                out.push_reserved(above::<K, I>(node, put.address()));
-                at += n;
-            }
-            Err(fault) => return Err(Stopped {
-                accepted: out.len(),
-                taken,
-                fault,
-            }),
-        }
+    let mut rest = items;
+    while !rest.is_empty() {
+        let (node, after) = rest.split_at(first::<K, I>(level, rest));
+        let put = put_node::<K, D, S, I>(store, level, node).map_err(|fault| Stopped {
+            accepted: out.len(),
+            taken,
+            fault,
+        })?;
+        taken += put.count();
+        out.push_reserved(above::<K, I>(node, put.address()));
+        rest = after;
     }
     Ok(taken)
 }

@@ -5,42 +5,36 @@ ghost use Rattle.node.specs.Items.{child_of, total_below};
 
 use crate::level::put_level;
 use digest::{Address, Digest};
-use node::{Child, Chunk};
+use node::Child;
 use store::{ChunkStore, StoreFault};
 use table::Key;
 
 // A tree that was put: its root address, and how many chunks the store took, those that it held already not counted.
-#[derive(Clone, Copy)]
+#[derive(Clone, Copy, Debug, PartialEq, Eq)]
 pub struct Built {
     pub root: Address,
     pub taken: usize,
 }
 
-// Puts the levels from the entries above the leaves up to the root. `spare` has room for the entries of every second level.
+// Puts the levels from the entries above the leaves up to the root. `next` has room for the entries of every second level.
 pub(crate) fn put_upper<K: Key, D: Digest, S: ChunkStore<D>>(
     store: &mut S,
-    chunk: &mut Chunk,
-    children: Vec<Child<K>>,
-    spare: Vec<Child<K>>,
+    mut here: Vec<Child<K>>,
+    mut next: Vec<Child<K>>,
 ) -> Result<Built, StoreFault>
-    requires some { 0 < vec_len children }
-    requires few { vec_len children ≤ 2 ^ 15 }
-    requires room { vec_len children < 2 * vec_capacity spare }
-    requires total { total_below (λ c. c.below) children.items < 2 ^ 32 }
+    requires some { 0 < vec_len here }
+    requires few { vec_len here ≤ 2 ^ 15 }
+    requires room { vec_len here < 2 * vec_capacity next }
+    requires total { total_below (λ c. c.below) here.items < 2 ^ 32 }
     ensures kept { S.ChunkStore.sound store.old → S.ChunkStore.sound store.new }
-    ensures does { S.ChunkStore.sound store.old → Raises D.Digest.digests K.Key.kind (S.ChunkStore.meaning store.old) (map (child_of K.Key.code) children.items) result (S.ChunkStore.meaning store.new) }
+    ensures does { S.ChunkStore.sound store.old → Raises D.Digest.digests K.Key.kind (S.ChunkStore.meaning store.old) (map (child_of K.Key.code) here.items) result (S.ChunkStore.meaning store.new) }
     ensures bound { IfOk result (λ b. b.taken ≤ 1048576) }
 {
-    let mut here = children;
-    let mut next = spare;
     let mut level = 1;
     let mut taken = 0;
     while here.len() > 1 {
         next.clear();
-        match put_level::<K, D, S, Child<K>>(store, chunk, level, here.as_slice(), &mut next) {
-            Ok(count) => taken += count,
-            Err(stopped) => return Err(stopped.fault),
-        }
+        taken += put_level::<K, D, S, Child<K>>(store, level, here.as_slice(), &mut next)?;
         std::mem::swap(&mut here, &mut next);
         level += 1;
     }

@@ -77,10 +77,6 @@ child_split r q s t hr hq e =
     let b = same_parts (four_bytes r.below) (four_bytes q.below) s t refl a.1 in
     (k.0, same_at r.at q.at hr hq a.0, b.0, b.1)
 
--- children with numbers of 4 bytes
-pub child_same : (r q : Child) → r.key ≡ q.key → r.at ≡ q.at → r.below < 2 ^ 32 → q.below < 2 ^ 32 → four_bytes r.below ≡ four_bytes q.below → r ≡ q
-child_same r q k a hr hq e = let n = same_four r.below q.below hr hq e in λ i. record { key = k i; at = a i; below = n i }
-
 children_same : (rs qs : List Child) → AllWhole rs → AllWhole qs → length rs ≡ length qs → flat_map child_bytes rs ≡ flat_map child_bytes qs → map (λ c. c.at) rs ≡ map (λ c. c.at) qs
 children_same [] [] a b n e = refl
 children_same [] (q ∷ qs) a b n e = absurd (omega (arith, n))

@@ -1,6 +1,6 @@
 -- Loops over the entries of a level: one that looks for the end of the first node, and one that takes one node after another.
-use Rattle.std.proofs.Common.{◌≡◌, ℕ, ◌+◌, ◌-◌, ◌<◌, ◌≤◌, Bool, true, false, eqb, List, [], ◌∷◌, ◌++◌, length, get_or, take, drop, sym, refl, ap, ◌∙◌, ap₂, ⊎_elim, arith}
-use Rattle.std.proofs.lemmas.List.{append-nil, append_assoc, length-drop, drop_more, take_more, drop_all, take_all, drop-drop, take_rest, at_drop_all}
+use Rattle.std.proofs.Common.{◌≡◌, ℕ, ◌+◌, ◌<◌, ◌≤◌, Bool, true, false, eqb, List, [], ◌∷◌, ◌++◌, length, get_or, take, drop, sym, refl, ap, ◌∙◌, ap₂, ⊎_elim, arith}
+use Rattle.std.proofs.lemmas.List.{length-drop, drop_more, take_more, drop_all, take_all}
 use Rattle.std.proofs.lemmas.Bool.{cases_eq, cond-true, cond-false, eq-eqb, ne_eqb}
 use Rattle.tree_laws.specs.Boundary.{none_left, closes, glue, nodes_from, nodes}
 
@@ -64,24 +64,3 @@ module _ {X : Type 0} (mark : X → Bool) where
   sought_all [] i p h inv = absurd (omega arith)
   sought_all (x ∷ xs) i p h inv =
       inv ∙ (ap₂ before (take_all i (x ∷ xs) h) (ap (nodes_from mark i) (drop_all i (x ∷ xs) h)) ∙ (before_all x xs ∙ ap₂ (λ a b. a ∷ nodes mark b) (sym (take_all (length (x ∷ xs)) (x ∷ xs) (omega arith))) (sym (drop_all (length (x ∷ xs)) (x ∷ xs) (omega arith)))))
-
-  -- a loop that takes one node after another: what completes the rest completes the whole
-  abbrev pub Completes : List X → List ℕ → ℕ → Type 0
-  Completes es ds at = (ms : List ℕ) → by_sizes ms (drop at es) ≡ nodes mark (drop at es) → by_sizes (ds ++ ms) es ≡ nodes mark es
-
-  pub completes_more : (es : List X) (ds out : List ℕ) (at n : ℕ) → Completes es ds at
-      → nodes mark (take (length es - at) (drop at es)) ≡ take n (take (length es - at) (drop at es)) ∷ nodes mark (drop n (take (length es - at) (drop at es)))
-      → out ≡ ds ++ n ∷ [] → Completes es out (at + n)
-  completes_more es ds out at n inv cut is ms h =
-      let r = take_rest es at in
-      let c : nodes mark (drop at es) ≡ take n (drop at es) ∷ nodes mark (drop (at + n) es) =
-      ap (nodes mark) (sym r) ∙ (cut ∙ (ap (λ w. take n w ∷ nodes mark (drop n w)) r ∙ ap (λ w. take n (drop at es) ∷ nodes mark w) (drop-drop n at es)))
-      in
-      let k : by_sizes (n ∷ ms) (drop at es) ≡ nodes mark (drop at es) =
-      ap (λ w. take n (drop at es) ∷ by_sizes ms w) (drop-drop n at es) ∙ (ap (λ w. take n (drop at es) ∷ w) h ∙ sym c)
-      in
-      ap (λ w. by_sizes (w ++ ms) es) is ∙ (ap (λ w. by_sizes w es) (append_assoc ds (n ∷ []) ms) ∙ inv (n ∷ ms) k)
-
-  pub completes_all : (es : List X) (ds : List ℕ) (at : ℕ) → length es ≤ at → Completes es ds at → by_sizes ds es ≡ nodes mark es
-  completes_all es ds at h inv =
-      ap (λ w. by_sizes w es) (sym (append-nil ds)) ∙ inv [] (sym (at_drop_all (nodes mark) es at h))

@@ -13,12 +13,9 @@ use tree::{Built, build_tree};
 // The entry at a place of a table: a key, and a cell of one byte.
 fn entry(key: i64, place: u32) -> Result<Entry<IntKey>, Fail> {
     let byte = (place % 251) as u8;
-    let Ok(cell) = Cell::new(&[byte]) else {
-        return Err(Fail::new("a cell of one byte was refused"));
-    };
     Ok(Entry {
         key: IntKey::new(key),
-        cell,
+        cell: Cell::new(&[byte])?,
     })
 }
 
@@ -31,16 +28,16 @@ fn consecutive(heap: Global, from: i64, count: u32) -> Result<Vec<Entry<IntKey>>
     Ok(entries)
 }
 
+fn has_mark(key: i64) -> bool {
+    is_marked(0, IntKey::new(key).encode().as_slice())
+}
+
 // A table of a hundred keys that are marked at level 0, or of a hundred that are not.
 fn chosen(heap: Global, marks: bool) -> Result<Vec<Entry<IntKey>>, Fail> {
+    let keys = (0..2_000).filter(|key| has_mark(*key) == marks);
     let mut entries = Vec::new(heap);
-    let mut place = 0u32;
-    for key in 0..2_000i64 {
-        let code = IntKey::new(key).encode();
-        if place < 100 && is_marked(0, code.as_slice()) == marks {
-            entries.push(entry(key, place)?)?;
-            place = place.saturating_add(1);
-        }
+    for (key, place) in keys.zip(0..100) {
+        entries.push(entry(key, place)?)?;
     }
     Ok(entries)
 }
@@ -50,20 +47,16 @@ fn build(heap: Global, bytes: usize, entries: &[Entry<IntKey>]) -> Result<Built,
     build_tree::<IntKey, Sha256, MemoryTable>(heap, &mut store, entries)
 }
 
-// 0 where the tree was built, else the number of the refusal.
-fn number(heap: Global, bytes: usize, entries: &[Entry<IntKey>]) -> u8 {
-    match build(heap, bytes, entries) {
-        Ok(_) => 0,
-        Err(fault) => fault.number(),
-    }
+// Whether the tree is built, or the number of the refusal.
+fn number(heap: Global, bytes: usize, entries: &[Entry<IntKey>]) -> Result<(), u8> {
+    build(heap, bytes, entries).map_err(|fault| fault.number())?;
+    Ok(())
 }
 
 // The first word of the root address, and the number of nodes.
-fn shape(heap: Global, entries: &[Entry<IntKey>]) -> Result<(u64, usize), Fail> {
-    match build(heap, 16_777_216, entries) {
-        Ok(built) => Ok((built.root.w0, built.taken)),
-        Err(_) => Err(Fail::new("the build was refused")),
-    }
+fn shape(heap: Global, entries: &[Entry<IntKey>]) -> Result<(u64, usize), TreeFault> {
+    let built = build(heap, 16_777_216, entries)?;
+    Ok((built.root.w0, built.taken))
 }
 
 fn expect(rt: &impl Abort, heap: Global, count: u32, root: u64, nodes: usize) -> Result<(), Fail> {
@@ -75,14 +68,19 @@ fn expect(rt: &impl Abort, heap: Global, count: u32, root: u64, nodes: usize) ->
 #[test]
 fn sizes(rt: HostRuntime) -> Result<(), Fail> {
     let heap = rt.alloc();
-    expect(&rt, heap, 0, 0xa045_4a24_dd4b_c418, 1)?;
-    expect(&rt, heap, 1, 0xeb7a_f614_ff72_fc72, 1)?;
-    expect(&rt, heap, 2, 0x63fd_efe5_f259_3130, 1)?;
-    expect(&rt, heap, 3, 0xda06_cb21_87f2_0c0b, 1)?;
-    expect(&rt, heap, 32, 0x11d9_6172_780e_0455, 1)?;
-    expect(&rt, heap, 33, 0xdeaa_c3c7_669a_3b84, 3)?;
-    expect(&rt, heap, 34, 0x7424_4846_eb59_3875, 3)?;
-    expect(&rt, heap, 1_000, 0x2cc1_04ab_297b_82d8, 62)
+    for (count, root, nodes) in [
+        (0, 0xa045_4a24_dd4b_c418, 1),
+        (1, 0xeb7a_f614_ff72_fc72, 1),
+        (2, 0x63fd_efe5_f259_3130, 1),
+        (3, 0xda06_cb21_87f2_0c0b, 1),
+        (32, 0x11d9_6172_780e_0455, 1),
+        (33, 0xdeaa_c3c7_669a_3b84, 3),
+        (34, 0x7424_4846_eb59_3875, 3),
+        (1_000, 0x2cc1_04ab_297b_82d8, 62),
+    ] {
+        expect(&rt, heap, count, root, nodes)?;
+    }
+    Ok(())
 }
 
 #[test]
@@ -90,7 +88,7 @@ fn largest(rt: HostRuntime) -> Result<(), Fail> {
     let heap = rt.alloc();
     expect(&rt, heap, 65_536, 0xee13_b3a1_3958_9539, 4_247)?;
     let entries = consecutive(heap, 0, 65_537)?;
-    assert_eq!(rt; number(heap, 16_777_216, entries.as_slice()), 17);
+    assert_eq!(rt; number(heap, 16_777_216, entries.as_slice()), Err(17));
     Ok(())
 }
 
@@ -99,13 +97,9 @@ fn largest(rt: HostRuntime) -> Result<(), Fail> {
 fn in_a_pile(rt: HostRuntime) -> Result<(), Fail> {
     let heap = rt.alloc();
     let entries = consecutive(heap, 0, 1_000)?;
-    match build_in_pile::<IntKey, Sha256>(heap, 16_777_216, entries.as_slice()) {
-        Ok(built) => {
-            assert_eq!(rt; (built.root.w0, built.taken), (0x2cc1_04ab_297b_82d8, 62));
-            Ok(())
-        }
-        Err(_) => Err(Fail::new("the build was refused")),
-    }
+    let built = build_in_pile::<IntKey, Sha256>(heap, 16_777_216, entries.as_slice())?;
+    assert_eq!(rt; (built.root.w0, built.taken), (0x2cc1_04ab_297b_82d8, 62));
+    Ok(())
 }
 
 // By their encoded bytes the negative keys would stand behind the others.
@@ -138,9 +132,15 @@ fn runs_of_marks(rt: HostRuntime) -> Result<(), Fail> {
 #[test]
 fn out_of_order(rt: HostRuntime) -> Result<(), Fail> {
     let heap = rt.alloc();
-    assert_eq!(rt; number(heap, 65_536, &[entry(2, 0)?, entry(1, 1)?]), 33);
-    assert_eq!(rt; number(heap, 65_536, &[entry(2, 0)?, entry(2, 1)?]), 33);
-    assert_eq!(rt; number(heap, 65_536, &[entry(1, 0)?, entry(2, 1)?]), 0);
+    assert_eq!(rt;
+        number(heap, 65_536, &[entry(2, 0)?, entry(1, 1)?]),
+        Err(33)
+    );
+    assert_eq!(rt;
+        number(heap, 65_536, &[entry(2, 0)?, entry(2, 1)?]),
+        Err(33)
+    );
+    assert_eq!(rt; number(heap, 65_536, &[entry(1, 0)?, entry(2, 1)?]), Ok(()));
     Ok(())
 }
 
@@ -150,14 +150,13 @@ fn no_room(rt: HostRuntime) -> Result<(), Fail> {
     let heap = rt.alloc();
     let entries = consecutive(heap, 0, 33)?;
     let mut store = MemoryTable::new(heap, 1_024);
-    match build_tree::<IntKey, Sha256, MemoryTable>(heap, &mut store, entries.as_slice()) {
-        Ok(_) => Err(Fail::new("accepted")),
-        Err(fault) => {
-            assert_eq!(rt; fault.number(), 4);
-            assert_eq!(rt; fault.path().len(), 2);
-            assert_ne!(rt; fault.address(), Address::ZERO);
-            assert_eq!(rt; <MemoryTable as ChunkStore<Sha256>>::free_units(&store), 0);
-            Ok(())
-        }
-    }
+    let built = build_tree::<IntKey, Sha256, MemoryTable>(heap, &mut store, entries.as_slice());
+    let Err(fault) = built else {
+        return Err(Fail::new("accepted"));
+    };
+    assert_eq!(rt; fault.number(), 4);
+    assert_eq!(rt; fault.path().len(), 2);
+    assert_ne!(rt; fault.address(), Address::ZERO);
+    assert_eq!(rt; <MemoryTable as ChunkStore<Sha256>>::free_units(&store), 0);
+    Ok(())
 }

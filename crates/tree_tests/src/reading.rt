@@ -1,26 +1,24 @@
 // Chunks that are nodes, and chunks that are malformed in one way each.
-use node::{Child, decode, encode_inner, encode_leaf};
+use node::{Child, decode, encode};
 use std::process::Abort;
 use std::test::Fail;
-use table::{BytesKey, Cell, IntKey, Key};
+use table::{BytesKey, Cell, Entry, IntKey};
 
-// The level and the number of entries; 33 and the number where it is refused.
-fn read(chunk: &[u8]) -> (u8, usize) {
-    match decode::<BytesKey>(chunk) {
-        Ok(node) => (node.level, node.count),
-        Err(fault) => (fault.number(), 0),
-    }
+// The level and the number of entries, or the number of the refusal.
+fn read(chunk: &[u8]) -> Result<(u8, usize), u8> {
+    let node = decode::<BytesKey>(chunk).map_err(|fault| fault.number())?;
+    Ok((node.level, node.count))
 }
 
 fn refused(rt: &impl Abort, chunk: &[u8]) {
-    assert_eq!(rt; read(chunk), (33, 0));
+    assert_eq!(rt; read(chunk), Err(33));
 }
 
 #[test]
 fn leaves(rt: HostRuntime) {
-    assert_eq!(rt; read(&[1, 2, 0, 0]), (0, 0));
-    assert_eq!(rt; read(&[1, 2, 0, 1, 1, 2, 1, 7]), (0, 1));
-    assert_eq!(rt; read(&[1, 2, 0, 2, 0, 0, 1, 2, 1, 7]), (0, 2));
+    assert_eq!(rt; read(&[1, 2, 0, 0]), Ok((0, 0)));
+    assert_eq!(rt; read(&[1, 2, 0, 1, 1, 2, 1, 7]), Ok((0, 1)));
+    assert_eq!(rt; read(&[1, 2, 0, 2, 0, 0, 1, 2, 1, 7]), Ok((0, 2)));
 }
 
 #[test]
@@ -66,10 +64,10 @@ fn limits(rt: HostRuntime) {
 fn higher_nodes(rt: HostRuntime) {
     let mut chunk = [0u8; 42];
     chunk[0..6].copy_from_slice(&[1, 2, 1, 1, 1, 2]);
-    assert_eq!(rt; read(&chunk), (1, 1));
+    assert_eq!(rt; read(&chunk), Ok((1, 1)));
     refused(&rt, &chunk[0..41]);
     chunk[2] = 15;
-    assert_eq!(rt; read(&chunk), (15, 1));
+    assert_eq!(rt; read(&chunk), Ok((15, 1)));
     chunk[2] = 0;
     refused(&rt, &chunk);
 }
@@ -86,24 +84,18 @@ fn integer_keys(rt: HostRuntime) {
 #[test]
 fn read_back(rt: HostRuntime) -> Result<(), Fail> {
     let chunk = [1, 2, 0, 2, 1, 2, 1, 7, 1, 3, 0];
-    let Ok(node) = decode::<BytesKey>(&chunk) else {
-        return Err(Fail::new("the leaf was refused"));
+    let node = decode::<BytesKey>(&chunk)?;
+    let mut entries = node.items::<BytesKey, Entry<BytesKey>>();
+    let (Some(first), Some(second), None) = (entries.next(), entries.next(), entries.next()) else {
+        return Err(Fail::new("the leaf has not two entries"));
     };
-    let mut cursor = node.cursor();
-    let Some(first) = cursor.next_entry::<BytesKey>() else {
-        return Err(Fail::new("the first entry is missing"));
-    };
-    let Some(second) = cursor.next_entry::<BytesKey>() else {
-        return Err(Fail::new("the second entry is missing"));
-    };
-    assert!(rt; cursor.next_entry::<BytesKey>().is_none());
-    assert!(rt; first.key.as_slice() == [2].as_slice() && first.cell.as_slice() == [7].as_slice());
-    assert!(rt; second.key.as_slice() == [3].as_slice() && second.cell.as_slice().is_empty());
-    assert!(rt; encode_leaf::<BytesKey>(&[second, first]).is_err());
-    let Ok(again) = encode_leaf::<BytesKey>(&[first, second]) else {
-        return Err(Fail::new("the entries were refused"));
-    };
-    assert!(rt; again.as_slice() == chunk.as_slice());
+    assert_eq!(rt; first.key.as_slice(), [2].as_slice());
+    assert_eq!(rt; first.cell.as_slice(), [7].as_slice());
+    assert_eq!(rt; second.key.as_slice(), [3].as_slice());
+    assert!(rt; second.cell.as_slice().is_empty());
+    assert!(rt; encode::<BytesKey, Entry<BytesKey>>(0, &[second, first]).is_err());
+    let again = encode::<BytesKey, Entry<BytesKey>>(0, &[first, second])?;
+    assert_eq!(rt; again.as_slice(), chunk.as_slice());
     Ok(())
 }
 
@@ -111,7 +103,7 @@ fn read_back(rt: HostRuntime) -> Result<(), Fail> {
 #[test]
 fn levels(rt: HostRuntime) {
     let none: [Child<BytesKey>; 0] = [];
-    assert!(rt; encode_inner::<BytesKey>(0, &none).is_err());
-    assert!(rt; encode_inner::<BytesKey>(1, &none).is_ok());
-    assert!(rt; encode_inner::<BytesKey>(16, &none).is_err());
+    assert!(rt; encode::<BytesKey, Child<BytesKey>>(0, &none).is_err());
+    assert!(rt; encode::<BytesKey, Child<BytesKey>>(1, &none).is_ok());
+    assert!(rt; encode::<BytesKey, Child<BytesKey>>(16, &none).is_err());
 }

@@ -1,13 +1,18 @@
-use Rattle.std.proofs.Common.{length, arith}
-use lib.ListN.{length-replicate}
-use Rattle.table.specs.Texts.{zeros_drop, take_is, replicate_zero}
+use Rattle.std.proofs.Common.{◌≡◌, ℕ, zero, suc, ◌-◌, true, length, replicate, refl, ap, ◌∙◌, arith}
+use Rattle.std.proofs.lemmas.List.{length-append, length-drop, length-replicate, drop-replicate}
+use Rattle.std.proofs.lemmas.Slice.{drop-append-drop}
+use Rattle.table.specs.Codes.{zeros}
 use Rattle.table.proofs.bytes.Bytes.new.Goals as goal
 
-pub loop-i-init : goal.loop-i-init
-loop-i-init g c = (length-replicate g.row.N 0, λ k h. absurd (omega arith), λ k h. replicate_zero g.row.N k)
+zeros_replicate : (n : ℕ) → zeros (replicate n 0) ≡ true
+zeros_replicate zero = refl
+zeros_replicate (suc n) = zeros_replicate n
 
-pub invariant_of-result : goal.invariant_of-result
-invariant_of-result g c = record { whole = c.loop-i.invariant.0; short = omega arith; clear = zeros_drop (length c.args.s.now) c.loop-i.bytes (λ k h. c.loop-i.invariant.2 k (omega arith)) }
+pub invariant_of-result-clause-whole : goal.invariant_of-result-clause-whole
+invariant_of-result-clause-whole g c = grind (arith, length-append, length-drop, length-replicate)
 
-pub returns : goal.returns
-returns g c = (omega arith, take_is c.args.s.now c.loop-i.bytes (omega (arith, c.loop-i.invariant.0)) (λ k h. c.loop-i.invariant.1 k (omega arith)))
+pub invariant_of-result-clause-clear : goal.invariant_of-result-clause-clear
+invariant_of-result-clause-clear g c =
+    let n = length c.args.s.now in
+    ap zeros (drop-append-drop n (replicate g.row.N 0) c.copy_from_slice.new.self n (omega arith) (ap length c.copy_from_slice.ensures.after) ∙ drop-replicate n g.row.N 0)
+    ∙ zeros_replicate (g.row.N - n)
