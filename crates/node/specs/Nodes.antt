@@ -63,11 +63,11 @@ abbrev pub inner_level : ℕ → Bool
 inner_level l = nat_le 1 l && nat_le l 15
 
 module _ {K : Type 0} (code : K → List ℕ) (before : K → K → Bool) (kind : ℕ) where
-  -- these bytes are the chunk of the well-formed leaf with these entries
+  -- these bytes are the chunk of the well-formed leaf with these entries: `Spells` at what `Item` is of `Entry`
   abbrev pub LeafChunk : List ℕ → ℕ → List (Entry K) → Type 0
   LeafChunk s level xs = Spells code before entry_key entry_value leaf_level kind s level xs
 
-  -- these bytes are the chunk of the well-formed higher node with these children
+  -- these bytes are the chunk of the well-formed higher node with these children: `Spells` at what `Item` is of `Child`
   abbrev pub InnerChunk : List ℕ → ℕ → List (Child K) → Type 0
   InnerChunk s level xs = Spells code before child_key child_value inner_level kind s level xs
 

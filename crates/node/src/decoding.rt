@@ -1,5 +1,5 @@
 // Reading a chunk: a node is taken as it lies in its bytes, or refused.
-ghost use Rattle.std.specs.Prelude.{◌≡◌, ℕ, true, ◌&&◌, List, ◌++◌, length, drop, Decides, MatchOption, MatchResult, ◌==◌, ◌≢◌, nat_le};
+ghost use Rattle.std.specs.Prelude.{◌≡◌, ℕ, true, ◌&&◌, List, ◌++◌, Decides, MatchOption, MatchResult, ◌==◌, ◌≢◌, nat_le};
 ghost use Rattle.node.specs.Items.{item_bytes};
 ghost use Rattle.node.specs.Nodes.{Listed, Views, SpellsNone, NodeIn, NoNode};
 ghost use Rattle.node.specs.declared.fault.TreeFault.TheVariants.{Malformed as malformed};
@@ -43,6 +43,7 @@ fn is_list<K: Key, I: Item<K>>(count: usize, body: &[u8]) -> bool
         let Some(read) = read_item::<K, I>(rest) else {
             return false;
         };
+        // A step of its own: by a pattern in the `let .. else` the proof did not close.
         let (item, behind) = read;
         let key = item.key();
         if !is_next(last, key) {

@@ -1,8 +1,8 @@
 // What a node holds: entries of a table, or children.
-ghost use Rattle.std.specs.Prelude.{◌≡◌, ℕ, ◌+◌, ◌^◌, ◌<◌, ◌≤◌, Bool, ◌&&◌, List, [], ◌++◌, length, drop, MatchOption, ◌==◌, ◌≢◌, nat_le};
-ghost use Rattle.digest.specs.Bytes.{bytes_of, Whole};
+ghost use Rattle.std.specs.Prelude.{◌≡◌, ℕ, ◌+◌, ◌^◌, ◌<◌, ◌≤◌, Bool, List, ◌++◌, length, MatchOption, ◌≢◌};
+ghost use Rattle.digest.specs.Bytes.{Whole};
 ghost use Rattle.table.specs.Of.{cell_bytes};
-ghost use Rattle.tree_laws.specs.Layout.{four_bytes, link_bytes, sized};
+ghost use Rattle.tree_laws.specs.Layout.{sized};
 ghost use Rattle.arrayvec.specs.ArrayVec.{array_vec_len};
 ghost use Rattle.node.specs.Chunks.{written};
 ghost use Rattle.table.specs.Texts.{same_string};
@@ -14,7 +14,7 @@ ghost use mathlib.Core.HLevel.{is_prop→PathP};
 ghost use Rattle.std.proofs.Math.Bridge.{le_prop};
 
 use crate::child::Child;
-use crate::chunk::{Chunk, append};
+use crate::chunk::{Chunk, append, append_sized};
 use digest::Address;
 use table::{Cell, Entry, Key};
 
@@ -91,9 +91,7 @@ impl<K: Key> Item<K> for Entry<K> {
     }
 
     fn write_value(&self, chunk: &mut Chunk) {
-        let cell = self.cell.as_slice();
-        chunk.push(cell.len() as u8);
-        append(chunk, cell);
+        append_sized(chunk, self.cell.as_slice());
     }
 
     fn read_value(key: K, s: &[u8]) -> Option<(Entry<K>, &[u8])> {
@@ -135,7 +133,7 @@ impl<K: Key> Item<K> for Child<K> {
     }
 
     fn is_level(level: u8) -> bool {
-        level >= 1 && level <= 15
+        (1..=15).contains(&level)
     }
 
     fn write_value(&self, chunk: &mut Chunk) {

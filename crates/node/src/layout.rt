@@ -4,7 +4,7 @@ ghost use Rattle.arrayvec.specs.ArrayVec.{array_vec_len};
 ghost use Rattle.node.specs.Chunks.{written};
 ghost use Rattle.node.specs.Items.{item_bytes, item_chunk};
 
-use crate::chunk::{Chunk, append};
+use crate::chunk::{Chunk, append_sized};
 use crate::item::Item;
 use table::Key;
 
@@ -15,9 +15,7 @@ fn write_item<K: Key, I: Item<K>>(chunk: &mut Chunk, item: &I)
     ensures len { array_vec_len chunk.new ≤ array_vec_len chunk.old + 74 }
 {
     let code = item.key().encode();
-    let key = code.as_slice();
-    chunk.push(key.len() as u8);
-    append(chunk, key);
+    append_sized(chunk, code.as_slice());
     item.write_value(chunk);
 }
 
