@@ -43,7 +43,8 @@ pub trait Item<K: Key>: Copy {
 
     fn write_value(&self, chunk: &mut Chunk)
         requires { array_vec_len chunk.old + 41 ≤ 2488 }
-        ensures { written chunk.new ≡ written chunk.old ++ value self.now };
+        ensures text { written chunk.new ≡ written chunk.old ++ value self.now }
+        ensures len { array_vec_len chunk.new ≡ array_vec_len chunk.old + length (value self.now) };
 
     // The entry with this key whose bytes behind the key are at the start of `s`, and the rest of `s`.
     fn read_value(key: K, s: &[u8]) -> Option<(Self, &[u8])>
