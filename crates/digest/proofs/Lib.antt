@@ -5,3 +5,4 @@ pub mod Bitwise
 pub mod Schedule
 pub mod Blocks
 pub mod Rotations
+pub mod Eights

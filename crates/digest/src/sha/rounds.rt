@@ -70,7 +70,7 @@ fn first_sixteen(held: &mut Held)
     first::<15>(held);
 }
 
-// Sixteen rounds more, from t on.
+// Sixteen rounds more, from t on, written out for the same reason.
 fn sixteen_more(held: &mut Held, t: usize)
     requires { (16 ≤ t) × (t ≤ 48) × (t % 16 ≡ 0) }
     ensures { Leads t (t + 16) held.old held.new }
@@ -108,7 +108,7 @@ fn compress_words(s: Words, m: [u32; 16]) -> Words
     sum(s, held.words)
 }
 
-// The sixteen words of a block.
+// The sixteen words of a block. A `for`: with `array::from_fn` the proof of what the words are did not close.
 fn load(block: &[u8; 64]) -> [u32; 16]
     ensures { result ≡ words_of 16 block.now }
 {
