@@ -1,5 +1,5 @@
 pub mod Slots
-pub mod Answered
 pub mod Verified
 pub mod Turns
 pub mod Lawful
+pub mod Mapped

@@ -1,11 +1,9 @@
 -- Slots, answers and meanings.
-use Rattle.std.proofs.Common.{◌≡◌, ℕ, ◌<◌, ◌≤◌, Bool, true, false, cond, eqb, ltb, ◌⊎◌, List, [], ◌∷◌, ◌++◌, length, take, drop, Ok, Err, Result, sym, refl, ap, ◌∙◌, inl, inr, arith, ltb-false, le-ltb, lt-ltb, eq-eqb, eqb-true}
-use Rattle.std.proofs.lemmas.List.{take_at}
+use Rattle.std.proofs.Common.{◌≡◌, ℕ, ◌<◌, ◌≤◌, true, cond, eqb, List, [], ◌∷◌, ◌++◌, length, drop, Ok, Err, sym, refl, ap, ◌∙◌, le-ltb, lt-ltb, eq-eqb, eqb-true}
 use Rattle.digest.specs.declared.address.Address.{Address}
 use Rattle.digest.proofs.Same.{and_left, and_right}
-use Rattle.store.specs.declared.fault.StoreFault.{StoreFault}
-use Rattle.store.specs.declared.fault.StoreFault.TheVariants.{Collision, Bad, Short, Memory}
-use Rattle.store.specs.Meaning.{Slot, nothing, chunk, bad, Meaning, same_bytes, get_at, write_at}
+use Rattle.store.specs.declared.fault.StoreFault.TheVariants.{Short}
+use Rattle.store.specs.Meaning.{Slot, chunk, Meaning, same_bytes, get_at, write_at}
 
 pub meaning_eq : (m n : Meaning) → ((a : Address) → m.at a ≡ n.at a) → m.free ≡ n.free → m.root ≡ n.root → m ≡ n
 meaning_eq m n h f r = λ i. record { at = λ a. h a i; free = f i; root = r i }
@@ -23,44 +21,8 @@ one_bytes (x ∷ xs) (y ∷ ys) h =
     let t : xs ≡ ys = one_bytes xs ys (and_right (eqb x y) (same_bytes xs ys) h) in
     cc
 
-pub ok_not_err : {A : Type 0} {x : A} {e : StoreFault} → ◌≡◌ {A = Result A StoreFault} (Ok x) (Err e) → ⊥
-ok_not_err h = let z : ◌≡◌ {A = ℕ} 0 1 = cc in omega arith
-
--- an accepted get at a buffer that every chunk fits
-pub record Got (s : Slot) (n : ℕ) (b : List ℕ) : Type 0 where
-  pub bytes : List ℕ
-  pub was : s ≡ chunk bytes
-  pub long : n ≡ length bytes
-  pub fits : length bytes ≤ length b
-  pub read : take n (write_at s b) ≡ bytes
-
-got_chunk : (c b : List ℕ) (a : Address) (n : ℕ) (t : Bool) → ltb (length b) (length c) ≡ t → ◌≡◌ {A = Result ℕ StoreFault} (Ok n) (cond t (Err (Short a)) (Ok (length c))) → Got (chunk c) n b
-got_chunk c b a n true e h = absurd (ok_not_err h)
-got_chunk c b a n false e h =
-    let l : n ≡ length c = cc in
-    let w : write_at (chunk c) b ≡ c ++ drop (length c) b = ap (λ t. cond t b (c ++ drop (length c) b)) e in
-    record { bytes = c; was = refl; long = l; fits = ltb-false (length b) (length c) e; read = ap (take n) w ∙ take_at c (drop (length c) b) n (sym l) }
-
-pub got : (s : Slot) (a : Address) (n : ℕ) (b : List ℕ) → ◌≡◌ {A = Result ℕ StoreFault} (Ok n) (get_at s a (length b)) → Got s n b
-got nothing a n b h = absurd (ok_not_err h)
-got (chunk c) a n b h = got_chunk c b a n (ltb (length b) (length c)) refl h
-got bad a n b h = absurd (ok_not_err h)
-
-pub collision_not_memory : (a : Address) → ◌≡◌ {A = StoreFault} (Collision a) Memory → ⊥
-collision_not_memory a h = let z : ◌≡◌ {A = ℕ} 0 1 = cc in omega arith
-
-pub err_same : {A : Type 0} {e f : StoreFault} → ◌≡◌ {A = Result A StoreFault} (Err e) (Err f) → e ≡ f
-err_same h = cc
-
-pub refused_so : {A X : Type 0} (p : Result A StoreFault) (e : StoreFault) (a : Address) → e ≡ Collision a → (p ≡ Err e) ⊎ ((e ≡ Memory) × X) → p ≡ Err (Collision a)
-refused_so p e a h (inl q) = q ∙ ap (λ x. Err x) h
-refused_so p e a h (inr m) = absurd (collision_not_memory a (sym h ∙ m.0))
-
 -- what get answers and leaves in the buffer, by the slot
 module _ (s : Slot) (a : Address) (b : List ℕ) where
-  pub get_bad : s ≡ bad → (Err (Bad a) ≡ get_at s a (length b)) × (b ≡ write_at s b)
-  get_bad e = (ap (λ x. get_at x a (length b)) (sym e), ap (λ x. write_at x b) (sym e))
-
   module _ (c : List ℕ) (e : s ≡ chunk c) where
     pub get_short : length b < length c → (Err (Short a) ≡ get_at s a (length b)) × (b ≡ write_at s b)
     get_short h =

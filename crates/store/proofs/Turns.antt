@@ -101,12 +101,5 @@ module _ (d : List ℕ → Address) where
       }
 
   -- one chunk alone
-  pub put_one : (m n : Meaning) (c : List ℕ) (p : Put) (count : ℕ) → put_answer d m c ≡ Ok p → n ≡ after_put d m c (Ok p) → count ≡ takes (Ok p) → AllPut d m (c ∷ []) count n
-  put_one m n c p count o q e = record {
-    accepted = (ap is_ok o, tt);
-    count = e ∙ (ap takes (sym o) ∙ sym (add-zero (takes (put_answer d m c))));
-    after = q ∙ ap (after_put d m c) (sym o);
-  }
-
   pub stop_one : (m n : Meaning) (c : List ℕ) (f : StoreFault) → OrMemory (put_answer d m c) (Err f) → n ≡ m → StoppedAt d m (c ∷ []) (record { accepted = 0; taken = 0; fault = f }) n
   stop_one m n c f r q = record { within = omega arith; before = tt; taken_before = refl; after = q; refused = r }

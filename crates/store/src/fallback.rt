@@ -13,28 +13,27 @@ pub struct Fallback<F, B> {
     pub back: B,
 }
 
-// A get in the front and, where it has no chunk, in the back.
-fn look<D: Digest, F: ChunkStore<D>, B: ChunkStore<D>>(
-    front: &mut F,
-    back: &mut B,
-    address: Address,
-    buffer: &mut [u8],
-) -> Result<usize, StoreFault>
-    ensures within { Within result (length buffer.old) }
-    ensures kept { F.ChunkStore.sound front.old → B.ChunkStore.sound back.old → F.ChunkStore.sound front.new × B.ChunkStore.sound back.new }
-    ensures answer { F.ChunkStore.sound front.old → B.ChunkStore.sound back.old → result ≡ get_answer (fallen (F.ChunkStore.meaning front.old) (B.ChunkStore.meaning back.old)) address (length buffer.old) }
-    ensures written { F.ChunkStore.sound front.old → B.ChunkStore.sound back.old → buffer.new ≡ get_buffer (fallen (F.ChunkStore.meaning front.old) (B.ChunkStore.meaning back.old)) address buffer.old }
-    ensures front_same { F.ChunkStore.sound front.old → F.ChunkStore.meaning front.new ≡ F.ChunkStore.meaning front.old }
-    ensures back_same { B.ChunkStore.sound back.old → B.ChunkStore.meaning back.new ≡ B.ChunkStore.meaning back.old }
-{
-    match front.get(address, buffer) {
-        Err(StoreFault::Absent(_)) => back.get(address, buffer),
-        Err(StoreFault::Bad(_)) => match back.get(address, buffer) {
-            Err(StoreFault::Short(a)) => Err(StoreFault::Short(a)),
-            Err(_) => Err(StoreFault::Bad(address)),
-            read => read,
-        },
-        answer => answer,
+impl<F, B> Fallback<F, B> {
+    // A get in the front and, where it has no chunk, in the back.
+    fn look<D: Digest>(&mut self, address: Address, buffer: &mut [u8]) -> Result<usize, StoreFault>
+    where
+        F: ChunkStore<D>,
+        B: ChunkStore<D>,
+        ensures within { Within result (length buffer.old) }
+        ensures kept { F.ChunkStore.sound self.old.front → B.ChunkStore.sound self.old.back → F.ChunkStore.sound self.new.front × B.ChunkStore.sound self.new.back }
+        ensures answer { F.ChunkStore.sound self.old.front → B.ChunkStore.sound self.old.back → result ≡ get_answer (fallen (F.ChunkStore.meaning self.old.front) (B.ChunkStore.meaning self.old.back)) address (length buffer.old) }
+        ensures written { F.ChunkStore.sound self.old.front → B.ChunkStore.sound self.old.back → buffer.new ≡ get_buffer (fallen (F.ChunkStore.meaning self.old.front) (B.ChunkStore.meaning self.old.back)) address buffer.old }
+        ensures front_same { F.ChunkStore.sound self.old.front → F.ChunkStore.meaning self.new.front ≡ F.ChunkStore.meaning self.old.front }
+        ensures back_same { B.ChunkStore.sound self.old.back → B.ChunkStore.meaning self.new.back ≡ B.ChunkStore.meaning self.old.back }
+    {
+        match self.front.get(address, buffer) {
+            Err(StoreFault::Absent(_)) => self.back.get(address, buffer),
+            Err(StoreFault::Bad(_)) => match self.back.get(address, buffer) {
+                read @ (Ok(_) | Err(StoreFault::Short(_))) => read,
+                Err(_) => Err(StoreFault::Bad(address)),
+            },
+            answer => answer,
+        }
     }
 }
 
@@ -53,7 +52,7 @@ impl<D: Digest, F: RootedStore<D>, B: ChunkStore<D>> ChunkStore<D> for Fallback<
         }
         let address = D::digest(chunk);
         let mut kept = [0; LONGEST];
-        match look::<D, F, B>(&mut self.front, &mut self.back, address, &mut kept) {
+        match self.look::<D>(address, &mut kept) {
             Ok(n) if &kept[..n] == chunk => Ok(Put::Held(address)),
             Ok(_) => Err(StoreFault::Collision(address)),
             Err(StoreFault::Absent(_)) => self.front.put(chunk),
@@ -62,7 +61,7 @@ impl<D: Digest, F: RootedStore<D>, B: ChunkStore<D>> ChunkStore<D> for Fallback<
     }
 
     fn get(&mut self, address: Address, buffer: &mut [u8]) -> Result<usize, StoreFault> {
-        look::<D, F, B>(&mut self.front, &mut self.back, address, buffer)
+        self.look::<D>(address, buffer)
     }
 
     fn free_units(&self) -> usize {

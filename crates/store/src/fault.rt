@@ -65,7 +65,7 @@ impl StoreFault {
         }
     }
 
-    // The address of the chunk that was refused, or zero.
+    // The address of the chunk that was refused, or zero: where it is printed every refusal has one.
     pub fn address(self) -> Address
         ensures { result ≡ address_of self }
     {
@@ -87,6 +87,7 @@ impl StoreFault {
     }
 }
 
+// By hand, both of them: no derive says in a clause which fault `?` makes.
 impl From<AllocError> for StoreFault {
     ghost from_gives = { λ _ f. f ≡ unfound };
 

@@ -5,6 +5,7 @@ mod fallback;
 mod fault;
 mod laws;
 mod puts;
+mod reading;
 mod verifying;
 
 ghost use Rattle.std.specs.Prelude.{◌≡◌, ℕ, ◌≤◌, List, length};
@@ -16,6 +17,7 @@ pub use fallback::Fallback;
 pub use fault::{Part, Put, StoreFault};
 pub use laws::{costs_stand, puts_are_lawful};
 pub use puts::{Stopped, put_all};
+pub use reading::hand_out;
 pub use verifying::Verifying;
 
 // A chunk has at most so many bytes.

@@ -53,14 +53,12 @@ pub fn put_all<D: Digest, S: ChunkStore<D>>(
 {
     let mut taken = 0;
     for (accepted, chunk) in chunks.iter().enumerate() {
-        match store.put(chunk.as_slice()) {
-            Ok(put) => taken += put.count(),
-            Err(fault) => return Err(Stopped {
-                accepted,
-                taken,
-                fault,
-            }),
-        }
+        let put = store.put(chunk.as_slice()).map_err(|fault| Stopped {
+            accepted,
+            taken,
+            fault,
+        })?;
+        taken += put.count();
     }
     Ok(taken)
 }

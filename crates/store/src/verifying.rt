@@ -4,7 +4,7 @@ ghost use Rattle.digest.specs.Bytes.{same_address};
 ghost use Rattle.store.specs.Meaning.{checked};
 ghost use Rattle.std.proofs.Common.{rules};
 
-use crate::{ChunkStore, LONGEST, Put, RootedStore, StoreFault};
+use crate::{ChunkStore, LONGEST, Put, RootedStore, StoreFault, hand_out};
 use digest::{Address, Digest};
 
 // The store below, except that a chunk whose digest is not its address is bad.
@@ -52,11 +52,7 @@ impl<D: Digest, S: ChunkStore<D>> ChunkStore<D> for Verifying<S> {
         if !verifies::<D>(&kept[..n], address) {
             return Err(StoreFault::Bad(address));
         }
-        if buffer.len() < n {
-            return Err(StoreFault::Short(address));
-        }
-        buffer[..n].copy_from_slice(&kept[..n]);
-        Ok(n)
+        hand_out(&kept[..n], address, buffer)
     }
 
     fn free_units(&self) -> usize {

@@ -7,4 +7,4 @@ invariant-loop-accepted g l =
     let d = g.D.Digest.digests in
     let m = g.S.ChunkStore.meaning in
     let sound = g.S.ChunkStore.sound in
-    (l.taken ≤ l.accepted) × (sound l.initial.store → sound l.store × AllPut d (m l.initial.store) (take l.accepted (map vec_items l.chunks)) l.taken (m l.store))
+    (l.taken ≤ l.accepted-counter) × (sound l.initial.store → sound l.store × AllPut d (m l.initial.store) (take l.accepted-counter (map vec_items l.chunks)) l.taken (m l.store))
