@@ -7,7 +7,7 @@ use crate::MemoryTable;
 use digest::{Address, Digest};
 use std::alloc::Global;
 use std::collections::HashMap;
-use store::{ChunkStore, LONGEST, Put, RootedStore, StoreFault};
+use store::{ChunkStore, LONGEST, Put, RootedStore, StoreFault, hand_out};
 
 // A table has at most so many units.
 const MOST_UNITS: usize = 1_048_576;
@@ -86,12 +86,7 @@ impl<D: Digest> ChunkStore<D> for MemoryTable {
 
     fn get(&mut self, address: Address, buffer: &mut [u8]) -> Result<usize, StoreFault> {
         let kept = self.find(address).ok_or(StoreFault::Absent(address))?;
-        let n = kept.len();
-        if buffer.len() < n {
-            return Err(StoreFault::Short(address));
-        }
-        buffer[..n].copy_from_slice(kept.as_slice());
-        Ok(n)
+        hand_out(kept.as_slice(), address, buffer)
     }
 
     fn free_units(&self) -> usize {
