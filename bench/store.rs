@@ -1,6 +1,6 @@
 // Puts and gets so many chunks of 456 bytes in Rust's HashMap, with the keys and the work of crates/store_bench: a put looks for the key,
 // and takes a copy of the chunk where it is absent; a get copies the chunk out. Prints nanoseconds. The second argument says which hash
-// the map has: `own`, or `word` for the key's first word, which is what the proved index takes. One map a process, so that none finds
+// the map has: `own`, or `word` for the key's first word, so that it does not hash. One map a process, so that none finds
 // memory that another has touched already.
 use std::collections::HashMap;
 use std::collections::hash_map::RandomState;
