@@ -20,18 +20,18 @@ pub struct Place {
 }
 
 // The value that stands at a place, and the addresses of its bytes.
-#[derive(Clone, Copy)]
+#[derive(Clone, Copy, Debug, PartialEq, Eq)]
 pub struct Record {
     pub value: i64,
     pub sha256: Address,
     pub fnv64: Address,
 }
 
-// How the records of two clusters at one place stand to each other.
+// How a record stands to what the other cluster has at its place: the same record, another one, which it carries, or none.
 #[derive(Clone, Copy, Debug, PartialEq, Eq)]
 pub enum Standing {
     Same,
-    Differs,
+    Differs(Record),
     Alone,
 }
 
@@ -55,7 +55,7 @@ impl Record {
             Some(there) if self.sha256 == there.sha256 && self.fnv64 == there.fnv64 => {
                 Standing::Same
             }
-            Some(_) => Standing::Differs,
+            Some(there) => Standing::Differs(there),
             None => Standing::Alone,
         }
     }
