@@ -91,12 +91,11 @@ impl Cluster {
             counts: Counts::default(),
         };
         let lines = BufReader::new(heap, File::open(rt, path)?)?.split(heap, b'\n');
-        for (index, line) in lines.enumerate() {
+        for (number, line) in (1u64..).zip(lines) {
             match Reading::parse(heap, line?.as_slice()) {
                 Ok(reading) => cluster.enter(rt, store, reading)?,
                 Err(LineFault::Malformed(fault)) => {
                     cluster.counts.malformed = cluster.counts.malformed.saturating_add(1);
-                    let number = index.saturating_add(1);
                     println!(rt; "  {path}, line {number}, left out: {fault}")?;
                 }
                 Err(fault) => return Err(fault.into()),
