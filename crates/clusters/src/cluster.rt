@@ -120,7 +120,7 @@ impl Cluster {
                 return show_refusal(rt, "a reading", fault);
             }
         }
-        let (tag, time, value) = reading.into_parts();
+        let Reading { tag, time, value } = reading;
         let record = Record::of(value, bytes.as_slice());
         if self.records.insert(Place { tag, time }, record)?.is_some() {
             self.counts.corrected = self.counts.corrected.saturating_add(1);
