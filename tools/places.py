@@ -1,8 +1,8 @@
 #!/usr/bin/env python3
-"""Lists the places in crates/*/src that may be written in an older form, a list for each of seven points.
+"""Lists the places in crates/*/src that may be written in an older form, a list for each of eight points.
 
     tools/places.py            counts for each point and pattern
-    tools/places.py 3          the places of point 3, one a line
+    tools/places.py 3          the places of point 3, one a line; those of point 8 are the proof files
 
 The patterns are wide: what they find is read, and docs/DESIGN-PASS.md says what came of each."""
 
@@ -35,12 +35,12 @@ LINES = {
         "an enum or struct without a derived ==": r"^(pub )?(enum|struct) \w+",
     },
     6: {
-        "a buffer and how much of it counts": r"\[0(u8|u32)?; [^\]]+\]|\blen: usize|\[0\.\.\w+\]",
+        "a buffer and how much of it counts": r"\[0(u8|u32)?; [^\]]+\]|\blen: usize|\[0?\.\.\w",
         "lists that belong together": r"^\s+(pub(\(crate\))? )?\w+: Vec<(?!u8>>)",
     },
     7: {
         "a choice by an enum of what to do": r"^\s+match (self|digest|call|\*call|command|word) \{",
-        "a function kept as a value": r"(: |<)fn\(|\bdyn \b|\bimpl Fn|\bFn(Mut|Once)?\(",
+        "a function kept as a value": r"(: |<)fn\(|\bdyn \b|\bimpl Fn\b|\bFn(Mut|Once)?\(",
     },
 }
 
@@ -68,13 +68,11 @@ def functions():
         text = re.sub(r"//[^\n]*", "", path.read_text())
         for m in re.finditer(r"\bfn (\w+)[^;{]*?\(", text):
             start = m.start()
-            end = text.find("\n", start)
-            depth, i, seen = 0, m.end() - 1, False
+            depth, i = 0, m.end() - 1
             while i < len(text):
                 c = text[i]
                 if c == "{":
                     depth += 1
-                    seen = True
                 elif c == "}":
                     depth -= 1
                     line_start = text.rfind("\n", 0, i) + 1
@@ -88,7 +86,7 @@ def functions():
 
 
 def body_of(code):
-    lines = [l for l in code.splitlines()[0:] if not re.match(r"\s*(ensures|requires)\b", l)]
+    lines = [l for l in code.splitlines() if not re.match(r"\s*(ensures|requires)\b", l)]
     whole = "\n".join(lines)
     at = whole.find("{")
     return whole[at:] if at >= 0 else ""
@@ -131,8 +129,16 @@ def repeated():
                 yield "parameters that stand together in three functions or more", w, text[:100]
 
 
+def proofs():
+    """Point 8: the proof files, each with how many lines it has."""
+    for path in sorted(TOP.glob("crates/*/proofs/**/*.antt")):
+        if "out" not in path.parts:
+            yield "a proof file", path.relative_to(TOP), len(path.read_text().splitlines())
+
+
 def places(point):
-    return list(twins() if point == 2 else repeated() if point == 5 else by_line(point))
+    others = {2: twins, 5: repeated, 8: proofs}
+    return list(others[point]() if point in others else by_line(point))
 
 
 def main():
@@ -145,10 +151,8 @@ def main():
         print(f"point {point}: {len(found)}")
         for name, count in collections.Counter(name for name, _, _ in found).items():
             print(f"    {count:3}  {name}")
-    answers = sorted(TOP.glob("crates/*/proofs/**/*.antt"))
-    answers = [a for a in answers if "out" not in a.parts]
-    lines = sum(len(a.read_text().splitlines()) for a in answers)
-    print(f"point 8: {len(answers)} proof files of {lines} lines")
+    found = places(8)
+    print(f"point 8: {len(found)} proof files of {sum(lines for _, _, lines in found)} lines")
 
 
 main()

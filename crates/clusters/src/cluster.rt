@@ -20,18 +20,18 @@ pub struct Place {
 }
 
 // The value that stands at a place, and the addresses of its bytes.
-#[derive(Clone, Copy)]
+#[derive(Clone, Copy, Debug, PartialEq, Eq)]
 pub struct Record {
     pub value: i64,
     pub sha256: Address,
     pub fnv64: Address,
 }
 
-// How the records of two clusters at one place stand to each other.
+// How a record stands to what the other cluster has at its place: the same record, another one, which it carries, or none.
 #[derive(Clone, Copy, Debug, PartialEq, Eq)]
 pub enum Standing {
     Same,
-    Differs,
+    Differs(Record),
     Alone,
 }
 
@@ -55,7 +55,7 @@ impl Record {
             Some(there) if self.sha256 == there.sha256 && self.fnv64 == there.fnv64 => {
                 Standing::Same
             }
-            Some(_) => Standing::Differs,
+            Some(there) => Standing::Differs(there),
             None => Standing::Alone,
         }
     }
@@ -91,12 +91,11 @@ impl Cluster {
             counts: Counts::default(),
         };
         let lines = BufReader::new(heap, File::open(rt, path)?)?.split(heap, b'\n');
-        for (index, line) in lines.enumerate() {
+        for (number, line) in (1u64..).zip(lines) {
             match Reading::parse(heap, line?.as_slice()) {
                 Ok(reading) => cluster.enter(rt, store, reading)?,
                 Err(LineFault::Malformed(fault)) => {
                     cluster.counts.malformed = cluster.counts.malformed.saturating_add(1);
-                    let number = index.saturating_add(1);
                     println!(rt; "  {path}, line {number}, left out: {fault}")?;
                 }
                 Err(fault) => return Err(fault.into()),
@@ -121,7 +120,7 @@ impl Cluster {
                 return show_refusal(rt, "a reading", fault);
             }
         }
-        let (tag, time, value) = reading.into_parts();
+        let Reading { tag, time, value } = reading;
         let record = Record::of(value, bytes.as_slice());
         if self.records.insert(Place { tag, time }, record)?.is_some() {
             self.counts.corrected = self.counts.corrected.saturating_add(1);

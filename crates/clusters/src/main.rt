@@ -104,20 +104,18 @@ fn show_full(rt: &HostRuntime) -> anyhow::Result<()> {
     Ok(())
 }
 
-// Prints each record of `here` that stands as wanted to what `there` has at its place, and says how many.
-fn list<F: Fn(&Place, Record, Option<Record>) -> anyhow::Result<()>>(
+// Gives `print` each record of `here` with how it stands to what `there` has at its place, and says how many it printed.
+fn list<F: Fn(&Place, Record, Standing) -> anyhow::Result<bool>>(
     here: &Cluster,
     there: &Cluster,
-    wanted: Standing,
     print: F,
 ) -> anyhow::Result<u32>
     requires { F.IsAlwaysCallable print }
 {
     let mut count = 0u32;
     for (place, record) in here.records.iter() {
-        let other = there.at(place);
-        if record.standing(other) == wanted {
-            print(place, *record, other)?;
+        let standing = record.standing(there.at(place));
+        if print(place, *record, standing)? {
             count = count.saturating_add(1);
         }
     }
@@ -126,24 +124,37 @@ fn list<F: Fn(&Place, Record, Option<Record>) -> anyhow::Result<()>>(
 
 fn compare(rt: &HostRuntime, north: &Cluster, south: &Cluster) -> anyhow::Result<()> {
     println!(rt; "the same in both")?;
-    let same = list(north, south, Standing::Same, |place, record, _| {
-        show(rt, "both", place, record)
+    let same = list(north, south, |place, record, standing| match standing {
+        Standing::Same => {
+            show(rt, "both", place, record)?;
+            Ok(true)
+        }
+        _ => Ok(false),
     })?;
     println!(rt; "different")?;
-    let differ = list(north, south, Standing::Differs, |place, record, other| {
-        show(rt, "north", place, record)?;
-        if let Some(other) = other {
+    let differ = list(north, south, |place, record, standing| match standing {
+        Standing::Differs(other) => {
+            show(rt, "north", place, record)?;
             show(rt, "south", place, other)?;
+            Ok(true)
         }
-        Ok(())
+        _ => Ok(false),
     })?;
     println!(rt; "only in north")?;
-    let only_north = list(north, south, Standing::Alone, |place, record, _| {
-        show(rt, "north", place, record)
+    let only_north = list(north, south, |place, record, standing| match standing {
+        Standing::Alone => {
+            show(rt, "north", place, record)?;
+            Ok(true)
+        }
+        _ => Ok(false),
     })?;
     println!(rt; "only in south")?;
-    let only_south = list(south, north, Standing::Alone, |place, record, _| {
-        show(rt, "south", place, record)
+    let only_south = list(south, north, |place, record, standing| match standing {
+        Standing::Alone => {
+            show(rt, "south", place, record)?;
+            Ok(true)
+        }
+        _ => Ok(false),
     })?;
     println!(rt;
         "{same} the same, {differ} different, {only_north} only in north, {only_south} only in south"

@@ -10,9 +10,9 @@ const LONGEST_TAG: usize = 32;
 
 #[derive(Drop)]
 pub struct Reading {
-    tag: String,
-    time: i64,
-    value: i64,
+    pub(crate) tag: String,
+    pub(crate) time: i64,
+    pub(crate) value: i64,
     ghost short: { string_len tag ≤ 32 },
 }
 
@@ -80,13 +80,5 @@ impl Reading {
         bytes.extend_from_slice(&self.time.to_be_bytes())?;
         bytes.extend_from_slice(&self.value.to_be_bytes())?;
         Ok(bytes)
-    }
-
-    // The tag, the time and the value.
-    pub fn into_parts(self) -> (String, i64, i64)
-        ensures { result ≡ (self.tag, self.time, self.value) }
-    {
-        let Reading { tag, time, value } = self;
-        (tag, time, value)
     }
 }

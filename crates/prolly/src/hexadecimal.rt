@@ -1,4 +1,4 @@
-// Byte strings in lowercase hexadecimal, two digits a byte.
+// Byte strings in lowercase hexadecimal, two digits a byte. The library `hex` would take capital digits too.
 ghost use Rattle.std.specs.Prelude.{◌≡◌, ◌<◌, MatchOption, MatchResult};
 ghost use Rattle.prolly.specs.Hexadecimal.{digit_of, hex, NonDigit};
 ghost use Rattle.prolly.specs.declared.hexadecimal.HexFault.TheVariants.{Memory};

@@ -13,6 +13,7 @@ use digest::{Address, Digest, Fnv64, Sha256};
 use std::env;
 use std::io::{BufRead, BufReader};
 
+// A match, since the names are a closed enum and the digest of each is a type of its own.
 fn address_of(digest: DigestName, bytes: &[u8]) -> Address
     ensures { result ≡ named_address digest bytes.now }
 {

@@ -49,7 +49,7 @@ mod tests {
         }
     }
 
-    // Of a refusal its number.
+    // A refusal by its number, which the documents name.
     fn put<S: ChunkStore<ByLength>>(store: &mut S, chunk: &[u8]) -> Result<Put, u8> {
         store.put(chunk).map_err(StoreFault::number)
     }
