@@ -122,40 +122,43 @@ fn list<F: Fn(&Place, Record, Standing) -> anyhow::Result<bool>>(
     Ok(count)
 }
 
+// Lists what only `here` has, and says how many that are.
+fn list_alone(
+    rt: &HostRuntime,
+    name: &str,
+    here: &Cluster,
+    there: &Cluster,
+) -> anyhow::Result<u32> {
+    println!(rt; "only in {name}")?;
+    list(here, there, |place, record, standing| {
+        let alone = standing == Standing::Alone;
+        if alone {
+            show(rt, name, place, record)?;
+        }
+        Ok(alone)
+    })
+}
+
 fn compare(rt: &HostRuntime, north: &Cluster, south: &Cluster) -> anyhow::Result<()> {
     println!(rt; "the same in both")?;
-    let same = list(north, south, |place, record, standing| match standing {
-        Standing::Same => {
+    let same = list(north, south, |place, record, standing| {
+        let same = standing == Standing::Same;
+        if same {
             show(rt, "both", place, record)?;
-            Ok(true)
         }
-        _ => Ok(false),
+        Ok(same)
     })?;
     println!(rt; "different")?;
-    let differ = list(north, south, |place, record, standing| match standing {
-        Standing::Differs(other) => {
-            show(rt, "north", place, record)?;
-            show(rt, "south", place, other)?;
-            Ok(true)
-        }
-        _ => Ok(false),
+    let differ = list(north, south, |place, record, standing| {
+        let Standing::Differs(other) = standing else {
+            return Ok(false);
+        };
+        show(rt, "north", place, record)?;
+        show(rt, "south", place, other)?;
+        Ok(true)
     })?;
-    println!(rt; "only in north")?;
-    let only_north = list(north, south, |place, record, standing| match standing {
-        Standing::Alone => {
-            show(rt, "north", place, record)?;
-            Ok(true)
-        }
-        _ => Ok(false),
-    })?;
-    println!(rt; "only in south")?;
-    let only_south = list(south, north, |place, record, standing| match standing {
-        Standing::Alone => {
-            show(rt, "south", place, record)?;
-            Ok(true)
-        }
-        _ => Ok(false),
-    })?;
+    let only_north = list_alone(rt, "north", north, south)?;
+    let only_south = list_alone(rt, "south", south, north)?;
     println!(rt;
         "{same} the same, {differ} different, {only_north} only in north, {only_south} only in south"
     )?;
