@@ -58,14 +58,6 @@ returns-in_err-put-clause-does g c s =
     (put_stopped d (m c.args.store.now) (m c.loop-rest.store) (m c.put_node.new.store) cs i c.loop-rest.taken (chunk node)
     (place_below mark items rest node after i held cut chunk) (at_place mark items rest node after i held cut chunk []) was.2 err.0 answer then)
 
-pub above-requires-clause-few : goal.above-requires-clause-few
-above-requires-clause-few g c =
-    let below = g.I.Item.below in
-    let node = c.split_at.result.0.now in
-    let after = c.split_at.result.1.now in
-    let part = ap (total_below below) c.split_at.ensures.by_index.0 ∙ sum_by-append below node after in
-    omega (arith, part, c.loop-rest.invariant.total, c.requires.few)
-
 pub loop-rest-preserved : goal.loop-rest-preserved
 loop-rest-preserved g c =
     let code = g.K.Key.code in
