@@ -1,2 +1,3 @@
 pub mod Rises
 pub mod Reading
+pub mod Linking

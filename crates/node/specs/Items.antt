@@ -1,5 +1,5 @@
 -- The entries of a node, over any lawful key kind, and what a level makes of them.
-use Rattle.std.specs.Prelude.{ℕ, ◌+◌, Bool, List, [], ◌∷◌, ◌++◌, map}
+use Rattle.std.specs.Prelude.{ℕ, Bool, List, ◌++◌, map, sum_by}
 use Rattle.digest.specs.declared.address.Address.{Address}
 use Rattle.tree_laws.specs.Boundary.{marked, nodes}
 use Rattle.tree_laws.specs.Layout.{Child, sized, node_bytes}
@@ -12,8 +12,7 @@ child_of code c = record { key = code c.key; at = c.at; below = c.below }
 
 -- the sum of what is below some entries
 abbrev pub total_below : {I : Type 0} → (I → ℕ) → List I → ℕ
-total_below below [] = 0
-total_below below (x ∷ xs) = below x + total_below below xs
+total_below below xs = sum_by below xs
 
 -- whether an entry is marked at a level
 abbrev pub item_marked : {K I : Type 0} → (K → List ℕ) → (I → K) → ℕ → I → Bool

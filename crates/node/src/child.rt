@@ -14,7 +14,7 @@ pub struct Child<K> {
     ghost fits: { below < 2 ^ 32 },
 }
 
-// By hand: no derive writes it for a struct with ghost fields.
+// By hand: the derive refuses a generic struct with ghost fields.
 impl<K: Copy> Clone for Child<K> {
     ghost is_clone = { λ x y. y ≡ x };
 

@@ -5,11 +5,14 @@ ghost use Rattle.tree_laws.specs.Layout.{sized};
 ghost use Rattle.node.specs.Chunks.{written};
 
 use arrayvec::ArrayVec;
+use store::LONGEST;
 
-// The bytes of a chunk, written one behind the other in a place of fixed size. No chunk is longer.
-pub type Chunk = ArrayVec<u8, 2488>;
+// The bytes of a chunk, written one behind the other in a place of fixed size. No chunk is longer. It is not `Copy`:
+// where two are wanted, `clone()` makes one, which takes no memory.
+pub type Chunk = ArrayVec<u8, LONGEST>;
 
-// Writes these bytes behind what was written.
+// Writes these bytes behind what was written. The room stays a `requires`: each caller shows it from the length of what it writes,
+// so nothing can fail.
 pub(crate) fn append(chunk: &mut Chunk, s: &[u8])
     requires { array_vec_len chunk.old + length s.now ≤ 2488 }
     ensures { written chunk.new ≡ written chunk.old ++ s.now }

@@ -18,7 +18,8 @@ fn is_node<K: Key, I: Item<K>>(level: u8, items: &[I]) -> bool
     I::is_level(level) && items.len() <= 32 && in_order::<K, I>(items)
 }
 
-// The chunk of these entries; refused where they are no node of that level: where the level holds no such entries, they are more than 32, or their keys do not rise.
+// The chunk of these entries; refused where they are no node of that level: where the level holds no such entries,
+// they are more than 32, or their keys do not rise.
 pub fn encode<K: Key, I: Item<K>>(level: u8, items: &[I]) -> Result<Chunk, TreeFault>
     ensures { MatchResult result (λ c. Spells K.Key.code K.Key.before I.Item.named I.Item.value I.Item.holds K.Key.kind (written c) level items.now) (λ e. (e ≡ malformed) × (WellFormed I.Item.holds K.Key.before I.Item.named level items.now → ⊥)) }
 {

@@ -10,7 +10,7 @@ use std::marker::PhantomData;
 use table::Key;
 
 // The entries of a node from one place on: the bytes from there on, and how many entries they are.
-#[derive(Drop)]
+#[derive_where(Clone, Copy)]
 pub struct Items<'a, K, I> {
     pub rest: &'a [u8],
     pub left: usize,

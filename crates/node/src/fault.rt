@@ -5,6 +5,8 @@ ghost use Rattle.node.specs.declared.fault.TreeFault.TheVariants.{Store as wrapp
 
 use digest::Address;
 use std::alloc::AllocError;
+use std::error::Error;
+use std::fmt;
 use store::{Part, StoreFault};
 
 // A refusal of the tree: the store's, carried whole, or its own.
@@ -17,6 +19,7 @@ pub enum TreeFault {
     Memory,
 }
 
+// Both by hand: a derived `From` has no `from_gives`, which clauses that name the error of a `?` need.
 impl From<StoreFault> for TreeFault {
     ghost from_gives = { λ f t. t ≡ wrapped f };
 
@@ -66,3 +69,16 @@ impl TreeFault {
         }
     }
 }
+
+// The number, the address and the parts, with a blank between: a store's fault has passed the tree, and the others start there.
+impl fmt::Display for TreeFault {
+    fn fmt<W: fmt::Write>(&self, f: &mut fmt::Formatter<W>) -> fmt::Result {
+        match self {
+            TreeFault::Store(fault) => write!(f, "{fault}")?,
+            _ => write!(f, "{} {}", self.number(), self.address())?,
+        }
+        write!(f, " {}", Part::Tree)
+    }
+}
+
+impl Error for TreeFault {}

@@ -60,9 +60,7 @@ impl Key for IntKey {
     }
 
     fn encode(&self) -> Bytes<32> {
-        let mut bytes = [0; 32];
-        bytes[..8].copy_from_slice(&self.value.to_be_bytes());
-        Bytes { bytes, len: 8 }
+        Bytes::new(&self.value.to_be_bytes()).unwrap()
     }
 
     fn decode(s: &[u8]) -> Option<IntKey> {

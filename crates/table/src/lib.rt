@@ -19,9 +19,11 @@ pub use entry::{Entry, tables_equal_by_key};
 pub use int_key::IntKey;
 pub use limit::Limit;
 
-// A lawful key kind: a number, a total order, and an encoding that tells keys apart.
+// A lawful key kind: a number, a total order, and an encoding that tells keys apart. One trait has all laws of a kind, so `encode` and
+// `decode` are no `From` and `TryFrom`. The order is no `Ord`: the theorems and the kinds that others add speak of `before`,
+// and `Ord` would ask four impls of each kind, with their laws.
 pub trait Key: Copy {
-    // The number of the kind, one byte.
+    // The number of the kind: a byte of the node format, so no enum.
     ghost kind: { ℕ };
 
     // The encoding.

@@ -2,6 +2,7 @@
 use Rattle.std.proofs.Common.{◌≡◌, ℕ, suc, ◌+◌, ◌<◌, Bool, List, [], ◌∷◌, ◌++◌, map, length, sym, refl, ap, ◌∙◌, ap₂, one-add, arith}
 use Rattle.std.specs.List.{flat_map}
 use Rattle.std.proofs.lemmas.List.{length-map}
+use Rattle.std.proofs.lemmas.List.Sums.{sum_by-cons}
 use Rattle.digest.specs.declared.address.Address.{Address}
 use Rattle.table.specs.Of.{cell_bytes}
 use Rattle.table.specs.declared.entry.Entry.{Entry}
@@ -38,11 +39,11 @@ module _ {X Y : Type 0} (f : X → Y) where
 module _ {K : Type 0} (code : K → List ℕ) (d : List ℕ → Address) (kind : ℕ) where
   pub ones : (xs : List (Entry K)) → total_below (λ _. 1) xs ≡ length (map (row_of code) xs)
   ones [] = refl
-  ones (x ∷ xs) = one-add (total_below (λ _. 1) xs) ∙ ap suc (ones xs)
+  ones (x ∷ xs) = sum_by-cons (λ _. 1) x xs ∙ (one-add (total_below (λ _. 1) xs) ∙ ap suc (ones xs))
 
   belows : (xs : List (Typed K)) → total_below (λ c. c.below) xs ≡ sum_below (map (child_of code) xs)
   belows [] = refl
-  belows (x ∷ xs) = ap (λ n. x.below + n) (belows xs)
+  belows (x ∷ xs) = sum_by-cons (λ c. c.below) x xs ∙ ap (λ n. x.below + n) (belows xs)
 
   abbrev pub cell_value : Entry K → List ℕ
   cell_value e = sized (cell_bytes e.cell)

@@ -30,8 +30,8 @@ fn build_empty<K: Key, D: Digest, S: ChunkStore<D>>(
     })
 }
 
-// The tree of a table with entries. `children` and `spare` have room for the entries of the levels above the leaves, so that
-// nothing is allocated once the first chunk was put.
+// The tree of a table with entries. `children` and `spare` have room for the entries of the levels above the leaves, one level in each
+// by turns: two lists that are passed along, since both are allocated before the first chunk is put.
 fn build_some<K: Key, D: Digest, S: ChunkStore<D>>(
     store: &mut S,
     entries: &[Entry<K>],

@@ -1,5 +1,5 @@
 // One level of a tree on its way into a store.
-ghost use Rattle.std.specs.Prelude.{◌≡◌, ◌+◌, ◌*◌, ◌^◌, ◌<◌, ◌≤◌, map, length, IfOk, vec_len, vec_capacity, OnOk, sum_by};
+ghost use Rattle.std.specs.Prelude.{◌≡◌, ◌+◌, ◌*◌, ◌^◌, ◌<◌, ◌≤◌, map, length, IfOk, vec_len, vec_capacity, OnOk};
 ghost use Rattle.store.specs.Meaning.{OrMemory, put_answer, after_put};
 ghost use Rattle.store.specs.Puts.{PutsInTurn};
 ghost use Rattle.tree_laws.specs.Boundary.{nodes};
@@ -14,10 +14,10 @@ use table::Key;
 // The entry above a node that stands at an address.
 fn above<K: Key, I: Item<K>>(items: &[I], at: Address) -> Child<K>
     requires some { 0 < length items.now }
-    requires few { sum_by I.Item.below items.now < 2 ^ 32 }
+    requires few { total_below I.Item.below items.now < 2 ^ 32 }
     ensures key { K.Key.code result.key ≡ last_of (λ x. K.Key.code (I.Item.named x)) items.now }
     ensures place { result.at ≡ at }
-    ensures count { result.below ≡ sum_by I.Item.below items.now }
+    ensures count { result.below ≡ total_below I.Item.below items.now }
 {
     Child {
         key: items.last().unwrap().key(),

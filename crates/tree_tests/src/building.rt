@@ -1,4 +1,5 @@
 // Trees built into fresh stores. The roots and the numbers of nodes were computed by another program, from the documents.
+// A refusal is compared by its number, which the documents name.
 use crate::build_in_pile;
 use digest::{Address, Sha256};
 use memory::MemoryTable;
@@ -22,8 +23,8 @@ fn entry(key: i64, place: u32) -> Result<Entry<IntKey>, Fail> {
 // A table of consecutive keys.
 fn consecutive(heap: Global, from: i64, count: u32) -> Result<Vec<Entry<IntKey>>, Fail> {
     let mut entries = Vec::new(heap);
-    for place in 0..count {
-        entries.push(entry(from.wrapping_add(i64::from(place)), place)?)?;
+    for (key, place) in (from..).zip(0..count) {
+        entries.push(entry(key, place)?)?;
     }
     Ok(entries)
 }
@@ -48,7 +49,7 @@ fn build(heap: Global, bytes: usize, entries: &[Entry<IntKey>]) -> Result<Built,
 }
 
 // Whether the tree is built, or the number of the refusal.
-fn number(heap: Global, bytes: usize, entries: &[Entry<IntKey>]) -> Result<(), u8> {
+fn outcome(heap: Global, bytes: usize, entries: &[Entry<IntKey>]) -> Result<(), u8> {
     build(heap, bytes, entries).map_err(|fault| fault.number())?;
     Ok(())
 }
@@ -88,7 +89,7 @@ fn largest(rt: HostRuntime) -> Result<(), Fail> {
     let heap = rt.alloc();
     expect(&rt, heap, 65_536, 0xee13_b3a1_3958_9539, 4_247)?;
     let entries = consecutive(heap, 0, 65_537)?;
-    assert_eq!(rt; number(heap, 16_777_216, entries.as_slice()), Err(17));
+    assert_eq!(rt; outcome(heap, 16_777_216, entries.as_slice()), Err(17));
     Ok(())
 }
 
@@ -133,14 +134,17 @@ fn runs_of_marks(rt: HostRuntime) -> Result<(), Fail> {
 fn out_of_order(rt: HostRuntime) -> Result<(), Fail> {
     let heap = rt.alloc();
     assert_eq!(rt;
-        number(heap, 65_536, &[entry(2, 0)?, entry(1, 1)?]),
+        outcome(heap, 65_536, &[entry(2, 0)?, entry(1, 1)?]),
         Err(33)
     );
     assert_eq!(rt;
-        number(heap, 65_536, &[entry(2, 0)?, entry(2, 1)?]),
+        outcome(heap, 65_536, &[entry(2, 0)?, entry(2, 1)?]),
         Err(33)
     );
-    assert_eq!(rt; number(heap, 65_536, &[entry(1, 0)?, entry(2, 1)?]), Ok(()));
+    assert_eq!(rt;
+        outcome(heap, 65_536, &[entry(1, 0)?, entry(2, 1)?]),
+        Ok(())
+    );
     Ok(())
 }
 

@@ -1,4 +1,4 @@
-// Chunks that are nodes, and chunks that are malformed in one way each.
+// Chunks that are nodes, and chunks that are malformed in one way each. A refusal is compared by its number, which the documents name.
 use node::{Child, decode, encode};
 use std::process::Abort;
 use std::test::Fail;

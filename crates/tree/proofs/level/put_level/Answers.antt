@@ -2,6 +2,7 @@ use Rattle.std.proofs.Common.{rules, ◌≡◌, ℕ, ◌+◌, ◌<◌, ◌≤◌
 use Rattle.std.specs.Result.{MatchResult, IsErrAnd}
 use Rattle.std.proofs.lemmas.Result.{err_from_is_err_and}
 use Rattle.std.proofs.lemmas.List.{nil_from_length, length-drop}
+use Rattle.std.proofs.lemmas.List.Sums.{sum_by-append, sum_by_push}
 use Rattle.std.proofs.lemmas.Bool.{eqb-true}
 use Rattle.store.specs.Meaning.{OrMemory, put_answer, after_put}
 use Rattle.store.specs.Puts.{AllPut, PutsInTurn}
@@ -10,7 +11,6 @@ use Rattle.store.proofs.Turns.{put_more, put_stopped}
 use Rattle.tree_laws.specs.Boundary.{nodes}
 use Rattle.node.specs.Items.{item_marked, item_chunk, node_above, level_chunks, child_of, total_below}
 use Rattle.tree.proofs.Nodewise.{node_below, node_next, at_place, place_below, values_more, child_parts, all_values}
-use Rattle.tree.proofs.Totals.{total-append, total_sum}
 use Rattle.tree.proofs.level.put_level.Goals as goal
 
 -- what a call answered whose error was mapped
@@ -58,14 +58,6 @@ returns-in_err-put-clause-does g c s =
     (put_stopped d (m c.args.store.now) (m c.loop-rest.store) (m c.put_node.new.store) cs i c.loop-rest.taken (chunk node)
     (place_below mark items rest node after i held cut chunk) (at_place mark items rest node after i held cut chunk []) was.2 err.0 answer then)
 
-pub above-requires-clause-few : goal.above-requires-clause-few
-above-requires-clause-few g c =
-    let below = g.I.Item.below in
-    let node = c.split_at.result.0.now in
-    let after = c.split_at.result.1.now in
-    let part = ap (total_below below) c.split_at.ensures.by_index.0 ∙ total-append below node after in
-    omega (arith, part, total_sum below node, c.loop-rest.invariant.total, c.requires.few)
-
 pub loop-rest-preserved : goal.loop-rest-preserved
 loop-rest-preserved g c =
     let code = g.K.Key.code in
@@ -94,10 +86,10 @@ loop-rest-preserved g c =
     let put = c.in_ok-put.put in
     let ok = ok_was c.put_node.result c.map_err.result put _ c.in_ok-put.was c.map_err.ensures.cases in
     let count = c.count.ensures in
-    let counted = c.above.ensures.count ∙ sym (total_sum below node) in
-    let part = ap (total_below below) c.split_at.ensures.by_index.0 ∙ total-append below node after in
-    let grown : total_below (λ e. e.below) (vec_items out') ≡ total_below (λ e. e.below) (vec_items out) + (child.below + 0) =
-    ap (total_below (λ e. e.below)) c.push_reserved.ensures.items ∙ total-append (λ e. e.below) (vec_items out) (child ∷ [])
+    let counted = c.above.ensures.count in
+    let part = ap (total_below below) c.split_at.ensures.by_index.0 ∙ sum_by-append below node after in
+    let grown : total_below (λ e. e.below) (vec_items out') ≡ total_below (λ e. e.below) (vec_items out) + child.below =
+    ap (total_below (λ e. e.below)) c.push_reserved.ensures.items ∙ sum_by_push (λ e. e.below) (vec_items out) child
     in
     record {
       room = λ more. let two = c.first.ensures.two (omega (arith, c.split_at.ensures.back_len, more)) in omega (arith, two, c.loop-rest.invariant.room some, c.split_at.ensures.back_len, long);

@@ -2,7 +2,7 @@ use Rattle.std.proofs.Common.{◌≡◌, ℕ, ◌<◌, ◌++◌, get_or, length,
 use Rattle.digest.specs.Bytes.{bytes_of}
 use Rattle.digest.proofs.RoundTrip.{forth}
 use Rattle.tree_laws.specs.Layout.{four_bytes}
-use Rattle.node.specs.Links.{link_cut_off, read_link, split_parts, fit_left, fit_right, four_of}
+use Rattle.node.proofs.Linking.{link_cut_off, read_link, split_parts, fit_left, fit_right, four_of}
 use Rattle.node.proofs.item.ChildItem.read_value.Goals as goal
 
 pub returns-in_err-at : goal.returns-in_err-at

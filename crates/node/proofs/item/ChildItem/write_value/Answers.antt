@@ -1,7 +1,7 @@
 use Rattle.std.proofs.Common.{◌++◌, length, ap, ◌∙◌}
 use Rattle.std.proofs.lemmas.List.{length-append}
 use Rattle.node.specs.Chunks.{written}
-use Rattle.node.specs.Links.{wrote_link}
+use Rattle.node.proofs.Linking.{wrote_link}
 use Rattle.node.specs.Nodes.{child_value}
 use Rattle.node.proofs.item.ChildItem.write_value.Goals as goal
 
