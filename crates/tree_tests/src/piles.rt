@@ -3,10 +3,9 @@ ghost use Rattle.memory.specs.Table.{units};
 ghost use Rattle.tree_tests.specs.Piles.{BuildsFresh};
 
 use digest::Digest;
-use memory::{MemoryTable, Pile};
+use memory::{Pile, fresh_pile};
 use node::TreeFault;
 use std::alloc::Global;
-use store::{Fallback, Verifying};
 use table::{Entry, Key};
 use tree::{Built, build_tree};
 
@@ -18,12 +17,6 @@ pub fn build_in_pile<K: Key, D: Digest>(
 ) -> Result<Built, TreeFault>
     ensures { BuildsFresh D.Digest.digests K.Key.kind K.Key.code K.Key.before (units bytes) entries.now result }
 {
-    let front = Verifying {
-        inner: MemoryTable::new(heap, bytes),
-    };
-    let back = MemoryTable::new(heap, 0);
-    let mut pile = Verifying {
-        inner: Fallback { front, back },
-    };
+    let mut pile = fresh_pile(heap, bytes);
     build_tree::<K, D, Pile>(heap, &mut pile, entries)
 }

@@ -1,5 +1,4 @@
-use Rattle.std.proofs.Common.{rules, ◌≡◌, ℕ, ◌+◌, ◌<◌, ◌≤◌, Bool, true, List, [], ◌∷◌, ◌==◌, length, take, drop, vec_items, vec_len, Ok, Err, Result, sym, refl, ap, ◌∙◌, ap₂, subst, arith}
-use Rattle.std.specs.Result.{MatchResult, IsErrAnd}
+use Rattle.std.proofs.Common.{rules, ◌≡◌, ℕ, ◌+◌, ◌<◌, ◌≤◌, Bool, true, List, [], ◌∷◌, ◌==◌, length, take, drop, vec_items, vec_len, Err, sym, ap, ◌∙◌, ap₂, subst, arith}
 use Rattle.std.proofs.lemmas.Result.{err_from_is_err_and}
 use Rattle.std.proofs.lemmas.List.{nil_from_length, length-drop}
 use Rattle.std.proofs.lemmas.List.Sums.{sum_by-append, sum_by_push}
@@ -7,20 +6,12 @@ use Rattle.std.proofs.lemmas.Bool.{eqb-true}
 use Rattle.store.specs.Meaning.{OrMemory, put_answer, after_put}
 use Rattle.store.specs.Puts.{AllPut, PutsInTurn}
 use Rattle.store.proofs.Lawful.{lawful}
+use Rattle.store.proofs.Mapped.{ok_was, err_was}
 use Rattle.store.proofs.Turns.{put_more, put_stopped}
 use Rattle.tree_laws.specs.Boundary.{nodes}
 use Rattle.node.specs.Items.{item_marked, item_chunk, node_above, level_chunks, child_of, total_below}
 use Rattle.tree.proofs.Nodewise.{node_below, node_next, at_place, place_below, values_more, child_parts, all_values}
 use Rattle.tree.proofs.level.put_level.Goals as goal
-
--- what a call answered whose error was mapped
-ok_was : {T E D : Type 0} (r : Result T E) (q : Result T D) (x : T) (P : E → D → Type 0) → q ≡ Ok x → MatchResult r (λ y. q ≡ Ok y) (λ e. IsErrAnd q (P e)) → r ≡ Ok x
-ok_was (Ok y) q x P e h = cc
-ok_was (Err f) q x P e h = absurd (subst (λ w. IsErrAnd w (P f)) e h)
-
-err_was : {T E D : Type 0} (r : Result T E) (q : Result T D) (f : D) (P : E → D → Type 0) → q ≡ Err f → MatchResult r (λ y. q ≡ Ok y) (λ e. IsErrAnd q (P e)) → (e : E) × (r ≡ Err e) × P e f
-err_was (Ok y) q f P e h = let z : ◌≡◌ {A = ℕ} 0 1 = cc in absurd (omega arith)
-err_was (Err d) q f P e h = (d, refl, subst (λ w. IsErrAnd w (P d)) e h)
 
 -- where nothing is left, all nodes are done
 done : {X : Type 0} (mark : X → Bool) (items rest : List X) (i : ℕ) → true ≡ (length rest == 0) → nodes mark rest ≡ drop i (nodes mark items) → length (nodes mark items) ≤ i
