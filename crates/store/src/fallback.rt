@@ -51,6 +51,7 @@ impl<D: Digest, F: RootedStore<D>, B: ChunkStore<D>> ChunkStore<D> for Fallback<
             return Err(StoreFault::TooLong);
         }
         let address = D::digest(chunk);
+        // Of fixed size, so that a layer allocates nothing.
         let mut kept = [0; LONGEST];
         match self.look::<D>(address, &mut kept) {
             Ok(n) if &kept[..n] == chunk => Ok(Put::Held(address)),

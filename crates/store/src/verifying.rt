@@ -33,6 +33,7 @@ impl<D: Digest, S: ChunkStore<D>> ChunkStore<D> for Verifying<S> {
     fn put(&mut self, chunk: &[u8]) -> Result<Put, StoreFault> {
         match self.inner.put(chunk) {
             Err(StoreFault::Collision(address)) => {
+                // Of fixed size, here and in `get`, so that a layer allocates nothing.
                 let mut kept = [0; LONGEST];
                 let n = self.inner.get(address, &mut kept)?;
                 if verifies::<D>(&kept[..n], address) {
