@@ -18,7 +18,7 @@ pub enum HexFault {
     Memory,
 }
 
-// By hand, since a clause of `decode` names the fault that a `?` makes.
+// By hand, and both, since the library has two errors: a clause of `decode` names the fault that a `?` makes.
 impl From<AllocError> for HexFault {
     ghost from_gives = { λ _ r. r ≡ Memory };
 

@@ -57,6 +57,7 @@ impl<D: Digest, F: RootedStore<D>, B: ChunkStore<D>> ChunkStore<D> for Fallback<
             Ok(n) if &kept[..n] == chunk => Ok(Put::Held(address)),
             Ok(_) => Err(StoreFault::Collision(address)),
             Err(StoreFault::Absent(_)) => self.front.put(chunk),
+            // Made again, since the answer has another type.
             Err(other) => Err(other),
         }
     }

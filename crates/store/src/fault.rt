@@ -87,7 +87,7 @@ impl StoreFault {
     }
 }
 
-// By hand, both of them: no derive says in a clause which fault `?` makes.
+// By hand, and both, since the library has two errors: no derive says in a clause which fault `?` makes.
 impl From<AllocError> for StoreFault {
     ghost from_gives = { λ _ f. f ≡ unfound };
 

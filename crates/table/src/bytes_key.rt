@@ -15,7 +15,7 @@ pub struct BytesKey {
 }
 
 impl BytesKey {
-    // The key with these bytes; refused where there are more than 32.
+    // The key with these bytes; refused where there are more than 32. Apart from a cell's `new`: a shared one would have to be told what to refuse.
     pub fn new(s: &[u8]) -> Result<BytesKey, Limit>
         ensures { MatchResult result (λ k. (length s.now ≤ 32) × (key_bytes k ≡ s.now)) (λ e. (32 < length s.now) × (e ≡ LongKey)) }
     {
@@ -23,6 +23,7 @@ impl BytesKey {
         Ok(BytesKey { bytes })
     }
 
+    // Here and at cells, which are a type of their own so that none is taken for a key.
     pub fn as_slice(&self) -> &[u8]
         ensures { result.now ≡ key_bytes self.now }
     {

@@ -7,7 +7,7 @@ use node::{TreeFault, is_marked};
 use std::alloc::Global;
 use std::process::Abort;
 use std::test::Fail;
-use store::ChunkStore;
+use store::{ChunkStore, StoreFault};
 use table::{Cell, Entry, IntKey, Key};
 use tree::{Built, build_tree};
 
@@ -162,5 +162,21 @@ fn no_room(rt: HostRuntime) -> Result<(), Fail> {
     assert_eq!(rt; fault.path().len(), 2);
     assert_ne!(rt; fault.address(), Address::ZERO);
     assert_eq!(rt; <MemoryTable as ChunkStore<Sha256>>::free_units(&store), 0);
+    Ok(())
+}
+
+// Number, address and parts, with a blank between; a store's fault has passed the tree.
+#[test]
+fn refusals_in_print(rt: HostRuntime) -> Result<(), Fail> {
+    let zero = "0000000000000000000000000000000000000000000000000000000000000000";
+    for (fault, number, parts) in [
+        (TreeFault::Malformed, "33", "tree"),
+        (TreeFault::Full, "17", "tree"),
+        (TreeFault::Store(StoreFault::Stale), "7", "store tree"),
+    ] {
+        let text = format!(in rt.alloc(); "{fault}")?;
+        let wanted = format!(in rt.alloc(); "{number} {zero} {parts}")?;
+        assert_eq!(rt; text.as_str(), wanted.as_str());
+    }
     Ok(())
 }
