@@ -67,7 +67,7 @@ fn finish(s: Words, rest: &[u8], bits: u64) -> Words
     requires { length rest.now < 64 }
     ensures { result ≡ blocks ((length rest.now + 72) / 64) (rest.now ++ closing (length rest.now) bits) s }
 {
-    // One block or two: `close` writes at their end first, which a list that grows cannot.
+    // One block or two, in a place of fixed size for both: nothing is allocated, and `close` finds the length's place from the end.
     let mut last = [0u8; 128];
     let end = padded_length(rest.len());
     let buf = &mut last[0..end];
