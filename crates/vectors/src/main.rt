@@ -46,8 +46,7 @@ impl Tally {
 
 // The example messages published for the standard.
 fn examples(rt: &HostRuntime, tally: &mut Tally) -> anyhow::Result<()> {
-    let million = vec![in rt.alloc(); b'a'; 1_000_000]?;
-    let messages: [(&str, &[u8], &str); 5] = [
+    let messages: [(&str, &[u8], &str); 4] = [
         (
             "empty",
             b"",
@@ -68,16 +67,18 @@ fn examples(rt: &HostRuntime, tally: &mut Tally) -> anyhow::Result<()> {
             b"abcdefghbcdefghicdefghijdefghijkefghijklfghijklmghijklmnhijklmnoijklmnopjklmnopqklmnopqrlmnopqrsmnopqrstnopqrstu",
             "cf5b16a778af8380036ce59e7b0492370b249b11e8f07a51afac45037afee9d1",
         ),
-        (
-            "a million a",
-            million.as_slice(),
-            "cdc76e5c9914fb9281a1c7e284d73e67f1809a48a497200e046d39ccc7112cd0",
-        ),
     ];
     for (name, message, known) in messages {
         tally.sha256(rt, name, message, known)?;
     }
-    Ok(())
+    // Behind the others, so that they stand in print where there is no memory for it.
+    let million = vec![in rt.alloc(); b'a'; 1_000_000]?;
+    tally.sha256(
+        rt,
+        "a million a",
+        million.as_slice(),
+        "cdc76e5c9914fb9281a1c7e284d73e67f1809a48a497200e046d39ccc7112cd0",
+    )
 }
 
 // Lengths around those at which the padding takes one block more, and the digests that OpenSSL computes of the bytes 0, 1, 2 and so on.
