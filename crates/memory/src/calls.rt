@@ -5,6 +5,7 @@ ghost use Rattle.memory.specs.Of.{table_means, table_len};
 
 use crate::MemoryTable;
 use digest::{Address, Digest};
+use index::BuildAddressHasher;
 use std::alloc::Global;
 use std::collections::HashMap;
 use store::{ChunkStore, LONGEST, Put, RootedStore, StoreFault, hand_out};
@@ -18,7 +19,7 @@ impl MemoryTable {
         ensures { table_means result ≡ empty (units bytes) }
     {
         MemoryTable {
-            chunks: HashMap::new(heap),
+            chunks: HashMap::with_hasher(heap, BuildAddressHasher),
             free: (bytes / 512).min(MOST_UNITS),
             root: Address::ZERO,
             heap,

@@ -1,4 +1,4 @@
-// Tests of the stores: each refusal through each store and through a pile, a store that is full to the unit, and collisions.
+// Tests of the stores and the index: each refusal through each store and through a pile, a store that is full to the unit, and collisions.
 #![tactic(auto)]
 
 ghost use Rattle.std.specs.Prelude.{◌≡◌, length};
@@ -36,9 +36,11 @@ impl Digest for AlwaysFour {
 #[cfg(test)]
 mod tests {
     use super::*;
+    use index::Index;
     use memory::MemoryTable;
     use std::alloc::Global;
     use std::process::Abort;
+    use std::test::Fail;
     use store::{ChunkStore, Fallback, Put, RootedStore, StoreFault, Verifying};
 
     // The address of the chunks of a length.
@@ -112,6 +114,20 @@ mod tests {
         puts(rt, store);
         gets(rt, store);
         roots(rt, store);
+    }
+
+    // Three places, two of them of one address.
+    #[test]
+    fn places(rt: HostRuntime) -> Result<(), Fail> {
+        let mut index = Index::new(rt.alloc());
+        for length in [7, 8, 7] {
+            index.insert(at(length))?;
+        }
+        assert_eq!(rt; index.len(), 3);
+        assert_eq!(rt; index.find(at(7)), Some(2));
+        assert_eq!(rt; index.find(at(8)), Some(1));
+        assert_eq!(rt; index.find(at(9)), None);
+        Ok(())
     }
 
     #[test]
