@@ -1,7 +1,7 @@
 -- The bytes written to a chunk's buffer.
-use Rattle.std.specs.Prelude.{ℕ, List}
-use Rattle.arrayvec.specs.ArrayVec.{ArrayVec}
+use Rattle.std.specs.Prelude.{ℕ, List, take}
+use Rattle.node.specs.declared.chunk.Chunk.{Chunk}
 
--- all that it holds
-abbrev pub written : ArrayVec ℕ → List ℕ
-written c = c.items
+-- the bytes up to its length
+abbrev pub written : Chunk → List ℕ
+written c = take c.len c.bytes

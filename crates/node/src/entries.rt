@@ -48,3 +48,8 @@ impl<'a, K: Key, I: Item<K>> Iterator for Items<'a, K, I> {
         Some(item)
     }
 }
+
+// It holds bytes and a number and only names `K` and `I`; by its marker alone it would be `Send` and `Sync` only where they are.
+unsafe impl<'a, K, I> Send for Items<'a, K, I> {}
+
+unsafe impl<'a, K, I> Sync for Items<'a, K, I> {}

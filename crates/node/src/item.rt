@@ -3,7 +3,6 @@ ghost use Rattle.std.specs.Prelude.{◌≡◌, ℕ, ◌+◌, ◌^◌, ◌<◌, �
 ghost use Rattle.digest.specs.Bytes.{Whole};
 ghost use Rattle.table.specs.Of.{cell_bytes};
 ghost use Rattle.tree_laws.specs.Layout.{sized};
-ghost use Rattle.arrayvec.specs.ArrayVec.{array_vec_len};
 ghost use Rattle.node.specs.Chunks.{written};
 ghost use Rattle.table.specs.Texts.{same_string};
 ghost use Rattle.tree_laws.proofs.Layouts.{same_sized};
@@ -14,7 +13,7 @@ ghost use mathlib.Core.HLevel.{is_prop→PathP};
 ghost use Rattle.std.proofs.Math.Bridge.{le_prop};
 
 use crate::child::Child;
-use crate::chunk::{Chunk, append, append_sized};
+use crate::chunk::Chunk;
 use digest::Address;
 use table::{Cell, Entry, Key};
 
@@ -42,9 +41,9 @@ pub trait Item<K: Key>: Copy {
         ensures { result ≡ holds level };
 
     fn write_value(&self, chunk: &mut Chunk)
-        requires { array_vec_len chunk.old + 41 ≤ 2488 }
+        requires { chunk.old.len + 41 ≤ 2488 }
         ensures text { written chunk.new ≡ written chunk.old ++ value self.now }
-        ensures len { array_vec_len chunk.new ≡ array_vec_len chunk.old + length (value self.now) };
+        ensures len { chunk.new.len ≡ chunk.old.len + length (value self.now) };
 
     // The entry with this key whose bytes behind the key are at the start of `s`, and the rest of `s`.
     fn read_value(key: K, s: &[u8]) -> Option<(Self, &[u8])>
@@ -92,7 +91,7 @@ impl<K: Key> Item<K> for Entry<K> {
     }
 
     fn write_value(&self, chunk: &mut Chunk) {
-        append_sized(chunk, self.cell.as_slice());
+        chunk.append_sized(self.cell.as_slice());
     }
 
     fn read_value(key: K, s: &[u8]) -> Option<(Entry<K>, &[u8])> {
@@ -140,8 +139,8 @@ impl<K: Key> Item<K> for Child<K> {
     fn write_value(&self, chunk: &mut Chunk) {
         let at = <[u8; 32]>::from(self.at);
         let below = self.below.to_be_bytes();
-        append(chunk, &at);
-        append(chunk, &below);
+        chunk.append(&at);
+        chunk.append(&below);
     }
 
     fn read_value(key: K, s: &[u8]) -> Option<(Child<K>, &[u8])> {

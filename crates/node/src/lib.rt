@@ -12,6 +12,7 @@ mod item;
 mod laws;
 mod layout;
 mod order;
+mod writing;
 
 pub use boundary::{closes, first, is_marked};
 pub use child::Child;

