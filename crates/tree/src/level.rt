@@ -26,8 +26,7 @@ fn above<K: Key, I: Item<K>>(items: &[I], at: Address) -> Child<K>
     }
 }
 
-// Puts a node. Its chunk is written in a buffer that goes through all calls of a build: with one made anew for each node a build took half
-// as long again.
+// Puts a node. Its chunk is written in a buffer that goes through all calls of a build, so that none is filled or copied for each node.
 pub(crate) fn put_node<K: Key, D: Digest, S: ChunkStore<D>, I: Item<K>>(
     store: &mut S,
     chunk: &mut Chunk,
